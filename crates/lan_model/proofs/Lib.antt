@@ -1,0 +1,5 @@
+pub mod BlankFits
+pub mod Decimals
+pub mod FewLeaves
+pub mod PlainLemmas
+pub mod Unnumbered

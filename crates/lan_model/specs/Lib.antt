@@ -1,0 +1,12 @@
+pub mod After
+pub mod Blank
+pub mod Dataset
+pub mod Fits
+pub mod Laws
+pub mod Leaves
+pub mod Lending
+pub mod Plain
+pub mod PlainTable
+pub mod Table
+pub mod Take
+pub mod formers

@@ -1,0 +1,4 @@
+pub mod ByName
+pub mod Distinct
+pub mod Held
+pub mod Told

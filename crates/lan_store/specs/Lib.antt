@@ -1,0 +1,11 @@
+pub mod Causes
+pub mod Gets
+pub mod InMemory
+pub mod Names
+pub mod Objects
+pub mod Paths
+pub mod Puts
+pub mod PutsAll
+pub mod Shelf
+pub mod Sizes
+pub mod Streams

@@ -1,0 +1,18 @@
+-- What a source or a sink that tells says of its bytes.
+use Rattle.std.specs.Prelude.{◌≡◌, ℕ, ◌<◌, ◌≤◌, List, length, take, drop, ◌++◌, Option, option_map, [], Result, Ok, Err}
+use Rattle.std.specs.Option.{ForSome}
+
+-- the bytes with these behind them, where they are told
+abbrev pub and_then_bytes : Option (List ℕ) → List ℕ → Option (List ℕ)
+and_then_bytes told more = option_map (λ bytes. bytes ++ more) told
+
+-- the next bytes of what was left stand in the buffer, and none were taken only at the end or into nothing
+pub record TakesNext (left into : List ℕ) (n : ℕ) : Type 0 where
+  pub within : n ≤ length left
+  pub bytes : take n into ≡ take n left
+  pub ended : n ≡ 0 → 0 < length into → left ≡ []
+
+-- a read took the next bytes of what was left, or nothing where it failed; a source that tells goes on to tell
+abbrev pub Takes : {E : Type 0} → Option (List ℕ) → Option (List ℕ) → List ℕ → Result ℕ E → Type 0
+Takes old new into (Ok n) = (new ≡ option_map (drop n) old) × ForSome old (λ left. TakesNext left into n)
+Takes old new into (Err _) = new ≡ old

@@ -1,0 +1,10 @@
+pub mod FaultLaws
+pub mod FaultsHold
+pub mod FrontItem
+pub mod FrontVarint
+pub mod Groups
+pub mod MessageLaws
+pub mod NumberLaws
+pub mod SpellingLaws
+pub mod Varints
+pub mod WrittenLaws

@@ -1,0 +1,125 @@
+ghost use Rattle.std.specs.Prelude.{◌+◌, ◌-◌, ◌*◌, ◌^◌, ◌<◌, ◌≤◌, length, IfOk, IfErr};
+ghost use Rattle.lan_wire.specs.Reading.{Gives, varint_in, varint_at, part_at, body_at, item_at, place_of};
+ghost use Rattle.lan_bytes.specs.Placed.{Placed};
+ghost use Rattle.lan_wire.specs.Faults.{Stands};
+ghost use Rattle.lan_wire.specs.Spells.{Begins};
+
+use crate::item::{Body, Item, WireKind};
+use lan_bytes::View;
+
+// A number in at most `more` bytes and one, and what follows it.
+#[tactic(auto, unfolding(crate::specs::Reading::varint_in))]
+fn varint_in(more: u32, bytes: &[u8]) -> Result<(u64, &[u8]), WireKind>
+    requires { more ≤ 9 }
+    ensures read { Gives (λ x. (x.0, x.1.now)) result (varint_in more bytes.now) }
+    ensures below { IfOk result (λ x. x.0 < 2 * 128 ^ more) }
+    ensures shorter { IfOk result (λ x. length x.1.now < length bytes.now) }
+{
+    match bytes {
+        [] => Err(WireKind::Cut),
+        [first, rest @ ..] => {
+            let first = u64::from(*first);
+            if more == 0 {
+                if first > 1 {
+                    return Err(WireKind::TooLong);
+                }
+                return Ok((first, rest));
+            }
+            if first < 128 {
+                return Ok((first, rest));
+            }
+            let (high, rest) = varint_in(more - 1, rest)?;
+            Ok((first % 128 + 128 * high, rest))
+        }
+    }
+}
+
+#[tactic(auto, unfolding(crate::specs::Reading::varint_at))]
+pub(crate) fn varint_at(bytes: &[u8]) -> Result<(u64, &[u8]), WireKind>
+    ensures read { Gives (λ x. (x.0, x.1.now)) result (varint_at bytes.now) }
+    ensures shorter { IfOk result (λ x. length x.1.now < length bytes.now) }
+{
+    varint_in(9, bytes)
+}
+
+#[tactic(auto, unfolding(crate::specs::Reading::part_at))]
+fn part_at<'a>(at: u64, bytes: &'a [u8]) -> Result<(Body<'a>, &'a [u8]), WireKind>
+    requires { at + length bytes.now ≤ 2 ^ 63 }
+    ensures read { Gives (λ x. (x.0, x.1.now)) result (part_at at bytes.now) }
+    ensures shorter { IfOk result (λ x. length x.1.now ≤ length bytes.now) }
+{
+    let (len, rest) = varint_at(bytes)?;
+    if (rest.len() as u64) < len {
+        return Err(WireKind::Cut);
+    }
+    let base = at + (bytes.len() - rest.len()) as u64;
+    let (part, rest) = rest.split_at(len as usize);
+    Ok((Body::Part(View::new(base, part)), rest))
+}
+
+#[tactic(auto, unfolding(crate::specs::Reading::body_at))]
+fn body_at<'a>(wire: u64, at: u64, bytes: &'a [u8]) -> Result<(Body<'a>, &'a [u8]), WireKind>
+    requires { at + length bytes.now ≤ 2 ^ 63 }
+    ensures read { Gives (λ x. (x.0, x.1.now)) result (body_at wire at bytes.now) }
+    ensures shorter { IfOk result (λ x. length x.1.now ≤ length bytes.now) }
+{
+    match wire {
+        0 => {
+            let (value, rest) = varint_at(bytes)?;
+            Ok((Body::Num(value), rest))
+        }
+        1 => {
+            if bytes.len() < 8 {
+                return Err(WireKind::Cut);
+            }
+            let (b, rest) = bytes.split_at(8);
+            let value = u64::from_le_bytes([b[0], b[1], b[2], b[3], b[4], b[5], b[6], b[7]]);
+            Ok((Body::Eight(value), rest))
+        }
+        2 => part_at(at, bytes),
+        5 => {
+            if bytes.len() < 4 {
+                return Err(WireKind::Cut);
+            }
+            let (b, rest) = bytes.split_at(4);
+            let value = u32::from_le_bytes([b[0], b[1], b[2], b[3]]);
+            Ok((Body::Four(value), rest))
+        }
+        _ => Err(WireKind::BadType),
+    }
+}
+
+#[tactic(auto, unfolding(crate::specs::Reading::item_at))]
+fn item_at<'a>(at: u64, bytes: &'a [u8]) -> Result<(Item<'a>, &'a [u8]), WireKind>
+    requires { at + length bytes.now ≤ 2 ^ 63 }
+    ensures read { Gives (λ x. (x.0, x.1.now)) result (item_at at bytes.now) }
+    ensures shorter { IfOk result (λ x. length x.1.now < length bytes.now) }
+{
+    let (key, rest) = varint_at(bytes)?;
+    let place = at + (bytes.len() - rest.len()) as u64;
+    let (body, rest) = body_at(key % 8, place, rest)?;
+    let number = key / 8;
+    if number == 0 || number > 536_870_911 {
+        return Err(WireKind::BadNumber);
+    }
+    let item = Item {
+        number: number as u32,
+        at,
+        body,
+    };
+    Ok((item, rest))
+}
+
+// The item at the front of bytes that aren't empty, and what follows it.
+pub(crate) fn first_item<'a>(at: u64, bytes: &'a [u8]) -> Result<(Item<'a>, &'a [u8]), WireKind>
+    requires full { 0 < length bytes.now }
+    requires within { at + length bytes.now ≤ 2 ^ 63 }
+    ensures stands { IfErr result (λ kind. Stands kind bytes.now) }
+    ensures begins { IfOk result (λ x. Begins (record { base = at; bytes = bytes.now }) x.0 (record { base = place_of at bytes.now x.1.now; bytes = x.1.now })) }
+    ensures shorter { IfOk result (λ x. length x.1.now < length bytes.now) }
+{
+    match item_at(at, bytes) {
+        Ok((item, rest)) => Ok((item, rest)),
+        Err(kind) => Err(kind),
+    }
+}

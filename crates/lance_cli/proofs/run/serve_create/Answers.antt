@@ -1,0 +1,21 @@
+use Rattle.std.proofs.Common.{◌≡◌, inl, inr, refl, sym, ◌∙◌, ap, ℕ, List}
+use Rattle.std.specs.Prelude.{Err, Some}
+use Rattle.lan_store.specs.declared.name.Name.{Name}
+use Rattle.lance_cli.specs.Commands.{column_name}
+use Rattle.lance_cli.proofs.run.serve_create.Goals as goal
+
+pub returns-in-Err-Store-clause-served : goal.returns-in-Err-Store-clause-served
+returns-in-Err-Store-clause-served g c = record {
+  due = tt;
+  leaves =
+      let named : column_name c.args.json.now ≡ Some c.as_str.result.now = sym c.in_ok-column.ensures ∙ c.in-Some.is ∙ ap (λ (l : List ℕ). Some l) (sym c.as_str.ensures.value) in
+      elim (rw c.in-Err-Store.field-0-is at c.in-Err-Store.ensures.creates) [
+        | inl same ↦ (inl same, refl)
+        | inr created ↦ (inr (c.as_str.result.now, named, created), refl)
+      ];
+}
+
+pub returns-in-Err-Store-clause-store_name : goal.returns-in-Err-Store-clause-store_name
+returns-in-Err-Store-clause-store_name g c = λ name is all told.
+    let same : c.in-Err-Store.name ≡ name = cc is in
+    c.in-Err-Store.ensures.told c.in-Err-Store.name (ap (λ f. Err f) c.in-Err-Store.field-0-is) all told ∙ ap (λ (n : Name). Some n) same

@@ -1,0 +1,61 @@
+-- What creating a dataset answers, and leaves.
+use Rattle.std.specs.Prelude.{◌≡◌, ℕ, ◌⊎◌, ◌≤◌, ⊤, List, [], ◌∷◌, length, take, Option, Some, None, Result, Ok, Err, MatchOption}
+use Rattle.std.specs.Option.{ForSome}
+use Rattle.lan_store.specs.declared.name.Object.{Object}
+use Rattle.lan_store.specs.Objects.{and_then}
+use Rattle.lan_store.specs.Streams.{and_then_bytes}
+use Rattle.lance_cli.specs.Commands.{column_name}
+use Rattle.lance_cli.specs.Manifests.{first_object}
+use Rattle.lance_cli.specs.Reports.{version_text}
+use Rattle.lance_cli.specs.Versions.{IsNewest, NoneListed, manifest_name}
+use Rattle.lance_cli.specs.declared.commit.CommitFault.{CommitFault}
+use Rattle.lance_cli.specs.declared.commit.CommitFault.TheVariants as commit
+use Rattle.lance_cli.specs.declared.fault.Fault.{Fault}
+use Rattle.lance_cli.specs.declared.fault.Fault.TheVariants as fault
+
+-- where no version is listed there is no newest
+abbrev pub IsNewestOf : List Object → Option ℕ → Type 0
+IsNewestOf all newest = MatchOption newest (NoneListed all) (IsNewest all)
+
+-- none was listed, and the objects have exactly the new dataset's manifest more
+pub record IsCreated (column : List ℕ) (before now : Option (List Object)) : Type 0 where
+  pub none : ForSome before NoneListed
+  pub grew : now ≡ and_then before (first_object column ∷ [])
+
+-- before and now are the store's objects, where it tells
+abbrev pub Creates : List ℕ → Option (List Object) → Option (List Object) → Result ℕ CommitFault → Type 0
+Creates column before now (Ok version) = (version ≡ 1) × IsCreated column before now
+Creates column before now (Err (commit.AlreadyThere version)) = ForSome before (λ all. IsNewest all version) × (now ≡ before)
+Creates column before now (Err (commit.Raced name)) = (name ≡ manifest_name 1) × ForSome before (λ _. ⊥) × (now ≡ before)
+Creates column before now (Err (commit.Store name)) = (now ≡ before) ⊎ IsCreated column before now
+Creates column before now (Err commit.Memory) = now ≡ before
+
+-- the command's text names a column that is taken
+abbrev pub Takes : List ℕ → Type 0
+Takes json = (column : List ℕ) × (column_name json ≡ Some column)
+
+-- why `create` answers what it answers
+abbrev pub CreateDue : List ℕ → Option (List Object) → Result Unit Fault → Type 0
+CreateDue json before (Ok _) = Takes json × ForSome before NoneListed
+CreateDue json before (Err fault.NotBuilt) = column_name json ≡ None
+CreateDue json before (Err (fault.AlreadyThere version)) = Takes json × ForSome before (λ all. IsNewest all version)
+CreateDue json before (Err (fault.Raced name)) = (name ≡ manifest_name 1) × ForSome before (λ _. ⊥)
+CreateDue json before (Err (fault.StoreFault name)) = ⊤
+CreateDue json before (Err fault.WriteFault) = ⊤
+CreateDue json before (Err fault.Memory) = ⊤
+CreateDue json before (Err f) = ⊥
+
+-- the objects have the manifest more of the column that the text names
+abbrev pub HasCreated : List ℕ → Option (List Object) → Option (List Object) → Type 0
+HasCreated json before now = (column : List ℕ) × (column_name json ≡ Some column) × IsCreated column before now
+
+-- the sink got a front of the text
+abbrev pub GotPart : List ℕ → Option (List ℕ) → Option (List ℕ) → Type 0
+GotPart text held holds = (k : ℕ) × (k ≤ length text) × (holds ≡ and_then_bytes held (take k text))
+
+-- what stands in the store and in the sink after each answer of `create`
+abbrev pub CreateLeaves : List ℕ → Option (List Object) → Option (List Object) → Option (List ℕ) → Option (List ℕ) → Result Unit Fault → Type 0
+CreateLeaves json before now held holds (Ok _) = HasCreated json before now × (holds ≡ and_then_bytes held (version_text 1))
+CreateLeaves json before now held holds (Err (fault.StoreFault name)) = ((now ≡ before) ⊎ HasCreated json before now) × (holds ≡ held)
+CreateLeaves json before now held holds (Err fault.WriteFault) = HasCreated json before now × GotPart (version_text 1) held holds
+CreateLeaves json before now held holds (Err f) = (now ≡ before) × (holds ≡ held)

@@ -1,0 +1,33 @@
+// What the words ask for.
+ghost use Rattle.std.specs.Prelude.{◌≡◌, option_map};
+ghost use Rattle.lance_cli.specs.Commands.{one_word, asked_as};
+ghost use Rattle.lance_cli.specs.Replies.{asked_of};
+
+use lan_model::{Text, Words};
+
+/// A command, as its words ask for it.
+#[derive(Clone, Copy, Debug)]
+pub enum Asked<'a> {
+    /// A new dataset, of the schema that the text gives.
+    Create(&'a str),
+}
+
+/// The command that the words ask for, where they obey the rule of words.
+pub fn asked_of(words: &Words) -> Option<Asked<'_>>
+    ensures { option_map asked_as result ≡ asked_of words.now }
+{
+    let (command, own) = words.as_slice().split_first()?;
+    if command.as_str() == "create" {
+        return one_word(own).map(Asked::Create);
+    }
+    None
+}
+
+fn one_word(words: &[Text]) -> Option<&str>
+    ensures { option_map (λ word. word.now) result ≡ one_word words.now }
+{
+    match words {
+        [word] => Some(word.as_str()),
+        _ => None,
+    }
+}

@@ -1,0 +1,158 @@
+#!/usr/bin/env python3
+"""Runs the cases of tests/cases on real folders with the proved program.
+
+A case is a text file. Each line begins with a word that says what it is:
+
+  # TEXT           a remark
+  file PATH HEX    a file to be there in the dataset's folder before the next run; `-` for no bytes
+  folder PATH      a folder to be there
+  set PATH         the dataset's folder for the next runs, in place of `set`
+  run WORDS        runs the program with the folder and these words, split as a shell splits them
+  bare WORDS       runs the program with these words alone
+  in TEXT          a line of the last run's input (`in-hex HEX`: bytes of it, as they are)
+  out TEXT         a line that the last run has to print; what isn't named may not be printed
+  err TEXT         the line that it has to print on standard error
+  status N         its status, 0 where the line is missing
+  to-full          its output goes to a device that is full
+  has PATH HEX     a file that has to stand in the folder after it
+  holds N          how many files stand in the folder after it
+
+The program is the first argument, or the one that the gate or `rt run` left.
+"""
+import os
+import shlex
+import subprocess
+import sys
+import tempfile
+
+TOP = os.path.dirname(os.path.dirname(os.path.abspath(__file__)))
+PROGRAM = os.path.join(TOP, "crates", "lance_cli", "out", "lance_cli")
+
+
+def built():
+    """The program, which is built where no run has left it."""
+    if len(sys.argv) > 1:
+        return os.path.abspath(sys.argv[1])
+    if not os.path.exists(PROGRAM):
+        crate = os.path.join(TOP, "crates", "lance_cli")
+        with tempfile.TemporaryDirectory() as folder:
+            subprocess.run(["rt", "run", "--", os.path.join(folder, "set")], cwd=crate,
+                           stdout=subprocess.DEVNULL, stderr=subprocess.DEVNULL)
+    return PROGRAM
+
+
+class Run:
+    """One run of the program, and what it has to do."""
+
+    def __init__(self, words, with_folder):
+        self.words, self.with_folder = words, with_folder
+        self.input, self.out, self.err = b"", b"", b""
+        self.status, self.full = 0, False
+        self.files, self.count = {}, None
+
+    def faults(self, program, folder):
+        words = [program] + ([folder] if self.with_folder else []) + self.words
+        to = open("/dev/full", "wb") if self.full else subprocess.PIPE
+        done = subprocess.run(words, input=self.input, stdout=to, stderr=subprocess.PIPE)
+        if self.full:
+            to.close()
+        said = [("status", self.status, done.returncode), ("err", self.err, done.stderr)]
+        if not self.full:
+            said.append(("out", self.out, done.stdout))
+        if self.count is not None:
+            held = sum(len(names) for _, _, names in os.walk(folder))
+            said.append(("holds", self.count, held))
+        for path, wanted in self.files.items():
+            said.append((path, wanted, bytes_of(os.path.join(folder, path))))
+        return [(what, wanted, got) for what, wanted, got in said if wanted != got]
+
+
+def bytes_of(path):
+    try:
+        with open(path, "rb") as file:
+            return file.read()
+    except OSError as error:
+        return error.strerror
+
+
+def put(folder, path, data):
+    full = os.path.join(os.fsencode(folder), os.fsencode(path).replace(rb"\xff", b"\xff"))
+    os.makedirs(os.path.dirname(full), exist_ok=True)
+    with open(full, "wb") as file:
+        file.write(data)
+
+
+def hexes(text):
+    return b"" if text == "-" else bytes.fromhex(text)
+
+
+def faults_of(path, program, place):
+    """What goes wrong in a case, as lines."""
+    lines, runs, folder, current = [], 0, os.path.join(place, "set"), None
+
+    def finish():
+        nonlocal current
+        if current is not None:
+            for what, wanted, got in current.faults(program, folder):
+                lines.append(f"{os.path.basename(path)}: run {runs}: {what}: wanted {wanted!r}, got {got!r}")
+        current = None
+
+    with open(path, encoding="utf-8") as file:
+        for line in file.read().split("\n"):
+            word, _, rest = line.partition(" ")
+            if word in ("run", "bare"):
+                finish()
+                runs += 1
+                current = Run(shlex.split(rest), word == "run")
+            elif word in ("file", "folder", "set"):
+                finish()
+                name, _, data = rest.partition(" ")
+                if word == "set":
+                    folder = os.path.join(place, name)
+                elif word == "folder":
+                    os.makedirs(os.path.join(folder, name), exist_ok=True)
+                else:
+                    put(folder, name, hexes(data))
+            elif word == "in":
+                current.input += rest.encode() + b"\n"
+            elif word == "in-hex":
+                current.input += hexes(rest)
+            elif word == "out":
+                current.out += rest.encode() + b"\n"
+            elif word == "err":
+                current.err += rest.encode() + b"\n"
+            elif word == "status":
+                current.status = int(rest)
+            elif word == "to-full":
+                current.full = True
+            elif word == "has":
+                name, _, data = rest.partition(" ")
+                current.files[name] = hexes(data)
+            elif word == "holds":
+                current.count = int(rest)
+            elif word not in ("#", ""):
+                lines.append(f"{os.path.basename(path)}: no such line: {line}")
+    finish()
+    if runs == 0:
+        lines.append(f"{os.path.basename(path)}: no run")
+    return runs, lines
+
+
+def main():
+    program = built()
+    folder = os.path.join(TOP, "tests", "cases")
+    cases = sorted(name for name in os.listdir(folder) if name.endswith(".txt"))
+    failed, runs = 0, 0
+    for name in cases:
+        with tempfile.TemporaryDirectory() as place:
+            count, lines = faults_of(os.path.join(folder, name), program, place)
+        runs += count
+        failed += bool(lines)
+        for line in lines:
+            print(line)
+    print(f"cases: {len(cases) - failed} passed, {failed} failed ({runs} runs)")
+    return 1 if failed or not cases else 0
+
+
+if __name__ == "__main__":
+    sys.exit(main())

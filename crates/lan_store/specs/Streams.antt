@@ -1,6 +1,10 @@
 -- What a source or a sink that tells says of its bytes.
-use Rattle.std.specs.Prelude.{◌≡◌, ℕ, ◌<◌, ◌≤◌, List, length, take, drop, ◌++◌, Option, option_map, [], Result, Ok, Err}
+use Rattle.std.specs.Prelude.{◌≡◌, ℕ, ◌<◌, ◌≤◌, List, length, take, drop, ◌++◌, Option, Some, option_map, [], Result, Ok, Err, ⊤}
 use Rattle.std.specs.Option.{ForSome}
+use Rattle.std.specs.declared.alloc.Global.{Global}
+use Rattle.std.specs.Prelude.{Vec}
+use Rattle.lan_store.specs.declared.copying.ReadAllFault.{ReadAllFault}
+use Rattle.lan_store.specs.declared.copying.ReadAllFault.TheVariants.{Failed, TooLong, Memory}
 
 -- the bytes with these behind them, where they are told
 abbrev pub and_then_bytes : Option (List ℕ) → List ℕ → Option (List ℕ)
@@ -16,3 +20,10 @@ pub record TakesNext (left into : List ℕ) (n : ℕ) : Type 0 where
 abbrev pub Takes : {E : Type 0} → Option (List ℕ) → Option (List ℕ) → List ℕ → Result ℕ E → Type 0
 Takes old new into (Ok n) = (new ≡ option_map (drop n) old) × ForSome old (λ left. TakesNext left into n)
 Takes old new into (Err _) = new ≡ old
+
+-- all that was left was read, where it was no more than this
+abbrev pub ReadsAll : ℕ → Option (List ℕ) → Option (List ℕ) → Result (Vec ℕ Global) ReadAllFault → Type 0
+ReadsAll most old new (Ok bytes) = (length bytes.items ≤ most) × ForSome old (λ left. (bytes.items ≡ left) × (new ≡ Some []))
+ReadsAll most old new (Err TooLong) = ForSome old (λ left. most < length left)
+ReadsAll most old new (Err Failed) = ⊤
+ReadsAll most old new (Err Memory) = ⊤

@@ -3,6 +3,7 @@
 
 mod blind;
 mod calm;
+mod copying;
 mod memory;
 mod name;
 mod putting;
@@ -14,6 +15,7 @@ mod streams;
 
 pub use blind::BlindStore;
 pub use calm::CalmStore;
+pub use copying::{ReadAllFault, read_all, write_all};
 pub use memory::{MemStore, Plan, Plans};
 pub use name::{Dir, Name, Names, Object};
 pub use putting::{PutAllFault, put_all};

@@ -19,11 +19,15 @@ abbrev pub Gives : {X Y : Type 0} → (X → Y) → Result X WireKind → Result
 Gives view (Ok x) read = read ≡ Ok (view x)
 Gives view (Err e) read = read ≡ Err e
 
+-- a number above lower groups, of which it counts units
+abbrev pub above : ℕ → ℕ → Result (ℕ × List ℕ) WireKind → Result (ℕ × List ℕ) WireKind
+above low unit read = read >>= λ high. Ok (low + unit * high.0, high.1)
+
 -- a number in at most so many bytes and one, of whose last only the lowest bit may be set, and what follows it
 unfoldable pub varint_in : ℕ → List ℕ → Result (ℕ × List ℕ) WireKind
 varint_in more [] = Err Cut
 varint_in zero (b ∷ bs) = cond (nat_lt 1 b) (Err TooLong) (Ok (b, bs))
-varint_in (suc more) (b ∷ bs) = cond (nat_lt b 128) (Ok (b, bs)) (varint_in more bs >>= λ high. Ok (b % 128 + 128 * high.0, high.1))
+varint_in (suc more) (b ∷ bs) = cond (nat_lt b 128) (Ok (b, bs)) (above (b % 128) 128 (varint_in more bs))
 
 -- a varint at the front, and what follows it
 unfoldable pub varint_at : List ℕ → Result (ℕ × List ℕ) WireKind

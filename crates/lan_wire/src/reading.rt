@@ -1,5 +1,5 @@
-ghost use Rattle.std.specs.Prelude.{◌+◌, ◌-◌, ◌*◌, ◌^◌, ◌<◌, ◌≤◌, length, IfOk, IfErr};
-ghost use Rattle.lan_wire.specs.Reading.{Gives, varint_in, varint_at, part_at, body_at, item_at, place_of};
+ghost use Rattle.std.specs.Prelude.{◌≡◌, ◌+◌, ◌-◌, ◌*◌, ◌^◌, ◌<◌, ◌≤◌, [], ◌∷◌, length, IfOk, IfErr};
+ghost use Rattle.lan_wire.specs.Reading.{Gives, above, varint_in, varint_at, part_at, body_at, item_at, place_of};
 ghost use Rattle.lan_bytes.specs.Placed.{Placed};
 ghost use Rattle.lan_wire.specs.Faults.{Stands};
 ghost use Rattle.lan_wire.specs.Spells.{Begins};
@@ -7,39 +7,56 @@ ghost use Rattle.lan_wire.specs.Spells.{Begins};
 use crate::item::{Body, Item, WireKind};
 use lan_bytes::View;
 
-// A number in at most `more` bytes and one, and what follows it.
+// The first byte, and what follows it.
+fn first_byte(bytes: &[u8]) -> Result<(u8, &[u8]), WireKind>
+    ensures read { IfOk result (λ x. bytes.now ≡ x.0 ∷ x.1.now) }
+    ensures cut { IfErr result (λ kind. (bytes.now ≡ []) × (kind ≡ WireKind.Cut)) }
+{
+    match bytes {
+        [] => Err(WireKind::Cut),
+        [first, rest @ ..] => Ok((*first, rest)),
+    }
+}
+
+// The tenth byte of a varint, above the 63 bits of the first nine. Only its lowest bit may be set.
 #[tactic(auto, unfolding(crate::specs::Reading::varint_in))]
-fn varint_in(more: u32, bytes: &[u8]) -> Result<(u64, &[u8]), WireKind>
-    requires { more ≤ 9 }
-    ensures read { Gives (λ x. (x.0, x.1.now)) result (varint_in more bytes.now) }
-    ensures below { IfOk result (λ x. x.0 < 2 * 128 ^ more) }
+fn tenth_byte(low: u64, bytes: &[u8]) -> Result<(u64, &[u8]), WireKind>
+    requires { low < 2 ^ 63 }
+    ensures read { Gives (λ x. (x.0, x.1.now)) result (above low (2 ^ 63) (varint_in 0 bytes.now)) }
     ensures shorter { IfOk result (λ x. length x.1.now < length bytes.now) }
 {
     match bytes {
         [] => Err(WireKind::Cut),
-        [first, rest @ ..] => {
-            let first = u64::from(*first);
-            if more == 0 {
-                if first > 1 {
-                    return Err(WireKind::TooLong);
-                }
-                return Ok((first, rest));
+        [last, rest @ ..] => {
+            let last = u64::from(*last);
+            if last > 1 {
+                return Err(WireKind::TooLong);
             }
-            if first < 128 {
-                return Ok((first, rest));
-            }
-            let (high, rest) = varint_in(more - 1, rest)?;
-            Ok((first % 128 + 128 * high, rest))
+            Ok((low + (1 << 63) * last, rest))
         }
     }
 }
 
+// A varint, and what follows it. A byte has seven bits of the number, the lowest group first.
 #[tactic(auto, unfolding(crate::specs::Reading::varint_at))]
 pub(crate) fn varint_at(bytes: &[u8]) -> Result<(u64, &[u8]), WireKind>
     ensures read { Gives (λ x. (x.0, x.1.now)) result (varint_at bytes.now) }
     ensures shorter { IfOk result (λ x. length x.1.now < length bytes.now) }
 {
-    varint_in(9, bytes)
+    let mut rest = bytes;
+    let mut low: u64 = 0;
+    let mut unit: u64 = 1;
+    for _ in 0..9u32 {
+        let (byte, after) = first_byte(rest)?;
+        let group = u64::from(byte);
+        if group < 128 {
+            return Ok((low + unit * group, after));
+        }
+        low += unit * (group % 128);
+        unit *= 128;
+        rest = after;
+    }
+    tenth_byte(low, rest)
 }
 
 #[tactic(auto, unfolding(crate::specs::Reading::part_at))]

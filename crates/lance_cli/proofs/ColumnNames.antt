@@ -4,7 +4,8 @@ use Rattle.std.specs.Prelude.{Option, Some, None, codes, bytes_eq, nat_eq, nat_l
 use Rattle.std.proofs.lemmas.Bool.Decides.{nat_tests}
 use Rattle.serde_json.specs.Data.{Data}
 use Rattle.serde_json.specs.Read.{read}
-use Rattle.lance_cli.specs.Commands.{members_in, text_at, flag_at, column_by, column_in, only_item, column_name}
+use Rattle.lan_rows.specs.Members.{members_in}
+use Rattle.lance_cli.specs.Commands.{text_at, flag_at, column_by, column_in, only_item, column_name}
 
 pub record HasLength (name : List ℕ) : Type 0 where
   pub some : 0 < length name

@@ -12,8 +12,8 @@ use Rattle.lan_store.specs.declared.name.Name.{Name}
 use Rattle.lan_store.specs.declared.name.Object.{Object}
 use Rattle.lance_cli.specs.Commits.{Commits, IsNameAt}
 use Rattle.lance_cli.specs.Creates.{Creates, IsNewestOf}
-use Rattle.lance_cli.specs.Manifests.{first_object}
-use Rattle.lance_cli.specs.Versions.{AreListed, NoneListed, manifest_name}
+use Rattle.lance_cli.specs.First.{first_object}
+use Rattle.lan_manifest.specs.Versions.{AreListed, NoneListed, manifest_name}
 use Rattle.lance_cli.specs.declared.commit.CommitFault.{CommitFault}
 use Rattle.lance_cli.specs.declared.commit.CommitFault.TheVariants.{AlreadyThere, Raced, Store, Memory}
 

@@ -4,14 +4,10 @@ pub mod ColumnNames
 pub mod Creating
 pub mod FirstTable
 pub mod Lengths
-pub mod Listing
 pub mod Monotone
 pub mod NextManifest
 pub mod NextVersion
 pub mod NoLimit
-pub mod OneManifest
 pub mod Replying
 pub mod RunClauses
 pub mod SchemaViews
-pub mod Spellings
-pub mod Texts

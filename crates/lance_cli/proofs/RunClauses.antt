@@ -14,17 +14,17 @@ use Rattle.lance_cli.specs.Causes.{Entry, Cause, hears}
 use Rattle.lance_cli.specs.Clauses.{Keeps, Kept, IsReply, OnReply, DoneAs, Done, answered, expected, Fails, Decided, AtMoment, Moments, HasPut, Leaves, FrontAs, GotFront, Prints, Printed, TakenBy}
 use Rattle.lance_cli.specs.Commands.{Asked, create, append, scan, column_name}
 use Rattle.lance_cli.specs.Creates.{IsCreated, HasCreated, CreateDue, CreateLeaves}
-use Rattle.lance_cli.specs.Manifests.{first_object}
+use Rattle.lance_cli.specs.First.{first_object}
 use Rattle.lance_cli.specs.Puts.{Puts}
 use Rattle.lance_cli.specs.Replies.{Told, Outcome, refused, done, asked_of}
 use Rattle.lance_cli.specs.Reports.{version_text}
 use Rattle.lance_cli.specs.Served.{Change, CreateServed, Served}
 use Rattle.lance_cli.specs.Standing.{Agrees}
-use Rattle.lance_cli.specs.Versions.{NoneListed}
+use Rattle.lan_manifest.specs.Versions.{NoneListed}
 use Rattle.lance_cli.specs.declared.fault.Fault.{Fault}
 use Rattle.lance_cli.specs.declared.fault.Fault.TheVariants.{Usage, NotBuilt, AlreadyThere, Raced, StoreFault, WriteFault, Memory}
 use Rattle.lance_cli.proofs.ColumnNames.{some_name, small_name}
-use Rattle.lance_cli.proofs.FirstTable.{no_rows, same_object, none_listed, newest_is, first_agrees}
+use Rattle.lance_cli.proofs.FirstTable.{no_rows, none_listed, newest_is, first_agrees}
 use Rattle.lance_cli.proofs.Monotone.{stands_more}
 use Rattle.lance_cli.proofs.Replying.{told_create, outcome_is, no_limit, created_reply, there_reply, unbuilt_reply}
 
@@ -46,7 +46,7 @@ unchanged_kept before now same = λ old was new is. keeps old new [] (same_Some 
 
 created_kept : (json : List ℕ) (before now : Option (List Object)) → (now ≡ before) ⊎ HasCreated json before now → Kept before now
 created_kept json before now (inl same) = unchanged_kept before now same
-created_kept json before now (inr (column, named, created)) = λ old was new is. keeps old new (first_object column ∷ []) (now_is before now old new (first_object column ∷ []) was is created.grew)
+created_kept json before now (inr (column, utf8, named, created)) = λ old was new is. keeps old new (first_object column ∷ []) (now_is before now old new (first_object column ∷ []) was is created.grew)
 
 pub kept_of : (asked : Option Asked) (c : Change) (result : Result Unit Fault) → Served asked c result → Kept c.before c.now
 kept_of None c result served = unchanged_kept c.before c.now served.objects
@@ -81,7 +81,7 @@ created_outcome words old input d told outcome column json is named none r =
     (created_reply d told json column named (none_listed old d.listed r.agrees.listed none) (no_limit old told json asked r.shows))
 
 create_done : (e : Entry) (json : List ℕ) (now : Option (List Object)) (held holds : Option (List ℕ)) (result : Result Unit Fault) → asked_of e.words ≡ Some (create json) → CreateLeaves json e.objects now held holds result → Done e now held holds result
-create_done e json now held holds (Ok _) is ((column, named, created), got) = λ old was text was_input d told outcome r.
+create_done e json now held holds (Ok _) is ((column, utf8, named, created), got) = λ old was text was_input d told outcome r.
     let asked = told_create e.words old text d told outcome json r is in
     let none = created.none old was in
     let later = created_outcome e.words old text d told outcome column json is named none r in
@@ -89,10 +89,10 @@ create_done e json now held holds (Ok _) is ((column, named, created), got) = λ
       prints = got;
       puts = (
         first_object column ∷ [],
-        subst (λ a. Puts old told.lines a (first_object column ∷ [])) (sym asked) (column, named, ap (λ o. o ∷ []) (sym (same_object column))),
+        subst (λ a. Puts old told.lines a (first_object column ∷ [])) (sym asked) (column, named, refl),
         created.grew ∙ ap (λ o. and_then o (first_object column ∷ [])) was,
       );
-      agrees = λ new is_new. rw (now_is e.objects now old new (first_object column ∷ []) was is_new created.grew) (first_agrees old d column (some_name json column named) (small_name json column named) none r.agrees);
+      agrees = λ new is_new. rw (now_is e.objects now old new (first_object column ∷ []) was is_new created.grew) (first_agrees old d column utf8 (some_name json column named) (small_name json column named) none r.agrees);
     })
 create_done e json now held holds (Err f) is left = λ old was text was_input d told outcome r. tt
 
@@ -152,14 +152,14 @@ unchanged_moments e now same = λ new is old was text was_input d told outcome r
 
 create_moments : (e : Entry) (json : List ℕ) (now : Option (List Object)) → asked_of e.words ≡ Some (create json) → (now ≡ e.objects) ⊎ HasCreated json e.objects now → Moments e now
 create_moments e json now is (inl same) = unchanged_moments e now same
-create_moments e json now is (inr (column, named, created)) = λ new is_new old was text was_input d told outcome r k low high.
+create_moments e json now is (inr (column, utf8, named, created)) = λ new is_new old was text was_input d told outcome r k low high.
     let whole = now_is e.objects now old new (first_object column ∷ []) was is_new created.grew in
     elim (front_or_all old (first_object column) k low (omega (arith, high, ap length whole))) [
       | inl front ↦ at_old (take k new) old d outcome (ap (λ (l : List Object). take k l) whole ∙ front) r.agrees
       | inr all ↦
           let none = created.none old was in
           let later = created_outcome e.words old text d told outcome column json is named none r in
-          let agrees = first_agrees old d column (some_name json column named) (small_name json column named) none r.agrees in
+          let agrees = first_agrees old d column utf8 (some_name json column named) (small_name json column named) none r.agrees in
           subst (λ o. AtMoment (take k new) d o) (sym later) (inr (subst (λ l. Agrees l (with_version d 1 (no_rows column))) (sym (ap (λ (l : List Object). take k l) whole ∙ all)) agrees))
     ]
 
@@ -170,12 +170,12 @@ moments_of (Some append) e c result is same served = absurd served
 moments_of (Some scan) e c result is same served = absurd served
 
 has_put : (e : Entry) (json : List ℕ) (now : Option (List Object)) (cut : ℕ → ℕ → Type 0) → cut 1 1 → asked_of e.words ≡ Some (create json) → HasCreated json e.objects now → HasPut e now cut
-has_put e json now cut one is (column, named, created) = λ old was text was_input. (
+has_put e json now cut one is (column, utf8, named, created) = λ old was text was_input. (
   create json,
   is,
   (
     first_object column ∷ [],
-    (column, named, ap (λ o. o ∷ []) (sym (same_object column))),
+    (column, named, refl),
     (1, one, created.grew ∙ ap (λ o. and_then o (first_object column ∷ [])) was),
   ),
 )
@@ -216,7 +216,7 @@ printed_nothing e json held holds is same = rw is same
 create_prints : (e : Entry) (json : List ℕ) (now : Option (List Object)) (held holds : Option (List ℕ)) (result : Result Unit Fault) → asked_of e.words ≡ Some (create json) → CreateDue json e.objects result → CreateLeaves json e.objects now held holds result
     → Prints e held holds result
 create_prints e json now held holds (Ok _) is due left = tt
-create_prints e json now held holds (Err WriteFault) is due ((column, named, created), got) = λ old was text was_input d told outcome r.
+create_prints e json now held holds (Err WriteFault) is due ((column, utf8, named, created), got) = λ old was text was_input d told outcome r.
     subst (λ o. FrontAs held holds o) (sym (created_outcome e.words old text d told outcome column json is named (created.none old was) r)) got
 create_prints e json now held holds (Err (StoreFault name)) is due left = printed_nothing e json held holds is left.1
 create_prints e json now held holds (Err Memory) is due left = printed_nothing e json held holds is left.1

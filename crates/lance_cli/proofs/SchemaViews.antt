@@ -6,7 +6,8 @@ use Rattle.serde_json.specs.Data.{Data, null, boolean, number, string, array, ob
 use Rattle.serde_json.specs.Find.{as_array, as_object}
 use Rattle.serde_json.specs.View.{view, items_of, items_view, members_of, members_view}
 use Rattle.serde_json.specs.declared.value.Value.{Value}
-use Rattle.lance_cli.specs.Commands.{count_members, members_in, only_item}
+use Rattle.lan_rows.specs.Members.{count_members, members_in}
+use Rattle.lance_cli.specs.Commands.{only_item}
 
 count_members_of : (ms : List (String Global × Data)) → count_members (members_of ms) ≡ length ms
 count_members_of [] = refl

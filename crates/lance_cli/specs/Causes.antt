@@ -8,13 +8,13 @@ use Rattle.lan_store.specs.declared.name.Object.{Object}
 use Rattle.lance_cli.specs.Commands.{Asked, create, append, column_name}
 use Rattle.lan_model.specs.Plain.{PlainValue}
 use Rattle.lan_store.specs.Objects.{object}
-use Rattle.lance_cli.specs.Reads.{ManifestOf}
-use Rattle.lance_cli.specs.Manifests.{Manifest}
+use Rattle.lan_manifest.specs.Reads.{ManifestOf}
+use Rattle.lan_manifest.specs.Manifests.{PlainManifest}
 use Rattle.lance_cli.specs.Puts.{NewestManifest, limit_of}
 use Rattle.lance_cli.specs.Replies.{asked_of, lines_for}
-use Rattle.lance_cli.specs.Rows.{rows_of}
+use Rattle.lan_rows.specs.Lines.{rows_of}
 use Rattle.lance_cli.specs.Standing.{StandsAt}
-use Rattle.lance_cli.specs.Versions.{IsNewest, NoneListed, manifest_name}
+use Rattle.lan_manifest.specs.Versions.{IsNewest, NoneListed, manifest_name}
 use Rattle.lance_cli.specs.declared.fault.Fault.{Fault}
 use Rattle.lance_cli.specs.declared.fault.Fault.TheVariants as fault
 use Rattle.lance_cli.specs.declared.fault.ManifestFault.TheVariants as manifest
@@ -51,7 +51,7 @@ NotBuilt e = (json : List ℕ) × (asked_of e.words ≡ Some (create json)) × (
 
 abbrev pub BadInput : Entry → ℕ → List ℕ → Type 0
 BadInput e line why = (asked_of e.words ≡ Some append) × (why ≡ codes "bad row")
-    × ForSome e.objects (λ all. ForSome e.input (λ input. (m : Manifest) × NewestManifest all m × (rows_of (map unnumbered m.fields) (lines_for append input) ≡ Err line)))
+    × ForSome e.objects (λ all. ForSome e.input (λ input. (m : PlainManifest) × NewestManifest all m × (rows_of (map unnumbered m.fields) (lines_for append input) ≡ Err line)))
 
 -- the command reads input, and there is too much of it
 abbrev pub IsLong : Asked → List ℕ → Type 0
@@ -63,14 +63,14 @@ InputTooLong e = (asked : Asked) × (asked_of e.words ≡ Some asked) × ForSome
 
 abbrev pub Limit : Entry → Which → ℕ → Type 0
 Limit e which number = (asked_of e.words ≡ Some append)
-    × ForSome e.objects (λ all. ForSome e.input (λ input. (m : Manifest) × (rows : List (List PlainValue)) × NewestManifest all m × (rows_of (map unnumbered m.fields) (lines_for append input) ≡ Ok rows) × (limit_of all m rows ≡ Some (which, number))))
+    × ForSome e.objects (λ all. ForSome e.input (λ input. (m : PlainManifest) × (rows : List (List PlainValue)) × NewestManifest all m × (rows_of (map unnumbered m.fields) (lines_for append input) ≡ Ok rows) × (limit_of all m rows ≡ Some (which, number))))
 
 -- the reason stands in the object at the place; each reader brings the cases of its own reasons
 abbrev pub Stands : List Object → ℕ → Name → Reason → ℕ → Type 0
 Stands all version name reason.Missing place = (object all name ≡ None) × (place ≡ 0)
 Stands all version name reason.Size place = IsSomeAnd (object all name) (λ bytes. (2 ^ 30 < length bytes) × (place ≡ length bytes))
 Stands all version name reason.Short place = ⊥
-Stands all version name (reason.Manifest manifest.Plain) place = (name ≡ manifest_name version) × (place ≡ 0) × IsSomeAnd (object all name) (λ bytes. (m : Manifest) → ManifestOf bytes version m → ⊥)
+Stands all version name (reason.Manifest manifest.Plain) place = (name ≡ manifest_name version) × (place ≡ 0) × IsSomeAnd (object all name) (λ bytes. (m : PlainManifest) → ManifestOf bytes version m → ⊥)
 
 -- the version that is read is listed, and doesn't stand, and the reason stands
 abbrev pub Outside : Entry → Name → Reason → ℕ → Type 0

@@ -3,6 +3,7 @@ use Rattle.std.specs.Prelude.{ℕ, ◌+◌, List, [], ◌∷◌, length, codes, 
 use Rattle.serde_json.specs.Data.{Data, null, boolean, number, string, array, object, Items, no_items, item, Members, no_members, member}
 use Rattle.serde_json.specs.Find.{get, as_str, as_bool}
 use Rattle.serde_json.specs.Read.{read}
+use Rattle.lan_rows.specs.Members.{members_in}
 use Rattle.lance_cli.specs.declared.command.Asked.{Asked as Parsed}
 use Rattle.lance_cli.specs.declared.command.Asked.TheVariants as parsed
 
@@ -31,15 +32,6 @@ in_words (command ∷ words) =
 -- what the program has read in the words
 abbrev pub asked_as : Parsed → Asked
 asked_as (parsed.Create json) = create json.now
-
-abbrev pub count_members : Members → ℕ
-count_members no_members = 0
-count_members (member k d ms) = count_members ms + 1
-
--- how many members an object has; any other value has none
-abbrev pub members_in : Data → ℕ
-members_in (object ms) = count_members ms
-members_in d = 0
 
 -- the text, or the flag, that an object has under a key
 abbrev pub text_at : List ℕ → Data → Option (List ℕ)

@@ -1,13 +1,13 @@
 -- What creating a dataset answers, and leaves.
-use Rattle.std.specs.Prelude.{◌≡◌, ℕ, ◌⊎◌, ◌≤◌, ⊤, List, [], ◌∷◌, length, take, Option, Some, None, Result, Ok, Err, MatchOption}
+use Rattle.std.specs.Prelude.{◌≡◌, ℕ, ◌⊎◌, ◌≤◌, ⊤, List, [], ◌∷◌, length, take, Option, Some, None, Result, Ok, Err, MatchOption, IsUtf8}
 use Rattle.std.specs.Option.{ForSome}
 use Rattle.lan_store.specs.declared.name.Object.{Object}
 use Rattle.lan_store.specs.Objects.{and_then}
 use Rattle.lan_store.specs.Streams.{and_then_bytes}
 use Rattle.lance_cli.specs.Commands.{column_name}
-use Rattle.lance_cli.specs.Manifests.{first_object}
+use Rattle.lance_cli.specs.First.{first_object}
 use Rattle.lance_cli.specs.Reports.{version_text}
-use Rattle.lance_cli.specs.Versions.{IsNewest, NoneListed, manifest_name}
+use Rattle.lan_manifest.specs.Versions.{IsNewest, NoneListed, manifest_name}
 use Rattle.lance_cli.specs.declared.commit.CommitFault.{CommitFault}
 use Rattle.lance_cli.specs.declared.commit.CommitFault.TheVariants as commit
 use Rattle.lance_cli.specs.declared.fault.Fault.{Fault}
@@ -47,7 +47,7 @@ CreateDue json before (Err f) = ⊥
 
 -- the objects have the manifest more of the column that the text names
 abbrev pub HasCreated : List ℕ → Option (List Object) → Option (List Object) → Type 0
-HasCreated json before now = (column : List ℕ) × (column_name json ≡ Some column) × IsCreated column before now
+HasCreated json before now = (column : List ℕ) × IsUtf8 column × (column_name json ≡ Some column) × IsCreated column before now
 
 -- the sink got a front of the text
 abbrev pub GotPart : List ℕ → Option (List ℕ) → Option (List ℕ) → Type 0

@@ -4,15 +4,11 @@ pub mod Commands
 pub mod Commits
 pub mod Creates
 pub mod Faults
-pub mod Files
+pub mod First
 pub mod Limits
-pub mod Manifests
 pub mod Puts
-pub mod Reads
 pub mod Replies
 pub mod Reports
-pub mod Rows
 pub mod Served
 pub mod Stage
 pub mod Standing
-pub mod Versions

@@ -9,7 +9,8 @@ use Rattle.lan_model.specs.After.{after, Command, Refusal}
 use Rattle.lance_cli.specs.Commands.{Asked, create, append, scan, in_words, column_name}
 use Rattle.lance_cli.specs.Faults.{fault_text}
 use Rattle.lance_cli.specs.Reports.{version_text}
-use Rattle.lance_cli.specs.Rows.{rows_of, line_of, cut}
+use Rattle.lan_rows.specs.Lines.{rows_of, cut}
+use Rattle.lan_rows.specs.Rows.{line_of}
 use Rattle.lance_cli.specs.Stage.{is_taken}
 use Rattle.lance_cli.specs.declared.fault.Fault.{Fault}
 use Rattle.lance_cli.specs.declared.fault.Fault.TheVariants as fault

@@ -6,12 +6,12 @@ ghost use Rattle.lan_store.specs.Causes.{HasCause};
 ghost use Rattle.lan_store.specs.Objects.{TellsFailed};
 ghost use Rattle.lance_cli.specs.Commits.{Commits};
 ghost use Rattle.lance_cli.specs.Creates.{Creates, IsNewestOf};
-ghost use Rattle.lance_cli.specs.Manifests.{first_object};
+ghost use Rattle.lance_cli.specs.First.{first_manifest, first_object};
+ghost use Rattle.lan_manifest.specs.Manifests.{plain_manifest};
 ghost use Rattle.lance_cli.specs.declared.commit.CommitFault.TheVariants.{Memory};
 
-use crate::manifest::first_manifest;
-use crate::versions::{list_versions, name_of_version};
-use lan_model::{Blob, Text};
+use lan_manifest::{Fragments, Manifest, list_versions, name_of_version, write_manifest};
+use lan_model::{Blob, Field, FieldList, Primitive, Text, Ty};
 use lan_store::{Dir, ListFault, Name, Object, PutAllFault, Store, put_all};
 use std::alloc::{AllocError, Global};
 
@@ -77,11 +77,31 @@ fn folder_of(alloc: Global, dir: Dir) -> Name
     }
 }
 
+// The manifest of version 1 of a table of one required int64 column.
+fn first_manifest(alloc: Global, column: &str) -> Result<Manifest, AllocError>
+    ensures { IfOk result (λ m. plain_manifest m ≡ first_manifest column.now) }
+{
+    let mut fields = FieldList::with_capacity(alloc, 1)?;
+    fields.push(Field {
+        id: 0,
+        name: Text::of(alloc, column)?,
+        nullable: false,
+        ty: Ty::Bits(Primitive::Int64),
+    })?;
+    Ok(Manifest {
+        fields,
+        fragments: Fragments::new(alloc),
+        version: 1,
+        greatest: None,
+    })
+}
+
 fn first_objects(alloc: Global, column: &str) -> Result<Vec<Object>, AllocError>
     ensures { IfOk result (λ objects. objects.items ≡ first_object column.now ∷ []) }
 {
     let name = name_of_version(alloc, 1)?;
-    let bytes = Blob::from_vec(first_manifest(alloc, column)?);
+    let manifest = first_manifest(alloc, column)?;
+    let bytes = Blob::from_vec(write_manifest(alloc, &manifest)?);
     let mut objects = Vec::with_capacity(alloc, 1)?;
     objects.push(Object { name, bytes })?;
     Ok(objects)

@@ -6,14 +6,11 @@ mod commit;
 mod fault;
 mod fault_text;
 mod folder;
-mod manifest;
-mod report;
 mod run;
 mod schema;
 mod stdio;
 #[cfg(test)]
 mod tests;
-mod versions;
 
 use fault::{Fault, exit_of};
 use fault_text::fault_text;

@@ -1,5 +1,5 @@
 // The top call: what a command does, and what that means.
-ghost use Rattle.std.specs.Prelude.{◌≡◌, ℕ, Some, IsErrOf};
+ghost use Rattle.std.specs.Prelude.{◌≡◌, ℕ, Some, IsErrOf, IfOk, string_bytes};
 ghost use Rattle.std.specs.Option.{ForSome};
 ghost use Rattle.lan_store.specs.declared.name.Name.{Name};
 ghost use Rattle.lan_store.specs.Causes.{HasCause};
@@ -7,16 +7,16 @@ ghost use Rattle.lance_cli.specs.Causes.{Cause};
 ghost use Rattle.lance_cli.specs.Clauses.{Kept, Done, Decided, Moments, Fails, Leaves, Prints, TakenBy};
 ghost use Rattle.lance_cli.specs.Commands.{create as asks_create};
 ghost use Rattle.lance_cli.specs.Replies.{asked_of};
+ghost use Rattle.lance_cli.specs.Reports.{version_text};
 ghost use Rattle.lance_cli.specs.Served.{Served, CreateServed};
 
 use crate::command::{Asked, asked_of};
 use crate::commit::{CommitFault, create};
 use crate::fault::Fault;
-use crate::report::{version_line, write_text};
 use crate::schema::column_of;
 use lan_model::{Text, Words};
-use lan_store::{Sink, Source, Store};
-use std::alloc::Global;
+use lan_store::{Sink, Source, Store, write_all};
+use std::alloc::{AllocError, Global};
 
 /// Does what the words ask of the dataset in the store, reads what they need from the input, and
 /// writes what it prints to `out`.
@@ -101,8 +101,15 @@ fn serve_create<S: Store, O: Sink>(
         Err(CommitFault::Store(name)) => return Err(Fault::StoreFault(name)),
         Err(CommitFault::Memory) => return Err(Fault::Memory),
     }
-    match write_text(out, reply.as_bytes()) {
+    match write_all(out, reply.as_bytes()) {
         Ok(()) => Ok(()),
         Err(_) => Err(Fault::WriteFault),
     }
+}
+
+// The line that names a version.
+fn version_line(alloc: Global, version: u64) -> Result<String, AllocError>
+    ensures { IfOk result (λ text. string_bytes text ≡ version_text version) }
+{
+    format!(in alloc; "version {version}\n")
 }

@@ -1,7 +1,8 @@
 // The schema of a new dataset, in its JSON form.
 ghost use Rattle.std.specs.Prelude.{◌≡◌, IfOk, option_map, option_and_then};
 ghost use Rattle.serde_json.specs.View.{view};
-ghost use Rattle.lance_cli.specs.Commands.{members_in, text_at, flag_at, column_in, only_item, column_name};
+ghost use Rattle.lan_rows.specs.Members.{members_in};
+ghost use Rattle.lance_cli.specs.Commands.{text_at, flag_at, column_in, only_item, column_name};
 
 use lan_model::Text;
 use serde_json::Value;

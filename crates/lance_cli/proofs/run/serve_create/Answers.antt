@@ -1,4 +1,4 @@
-use Rattle.std.proofs.Common.{◌≡◌, inl, inr, refl, sym, ◌∙◌, ap, ℕ, List}
+use Rattle.std.proofs.Common.{◌≡◌, inl, inr, refl, sym, ◌∙◌, ap, subst, ℕ, List, IsUtf8}
 use Rattle.std.specs.Prelude.{Err, Some}
 use Rattle.lan_store.specs.declared.name.Name.{Name}
 use Rattle.lance_cli.specs.Commands.{column_name}
@@ -11,7 +11,7 @@ returns-in-Err-Store-clause-served g c = record {
       let named : column_name c.args.json.now ≡ Some c.as_str.result.now = sym c.in_ok-column.ensures ∙ c.in-Some.is ∙ ap (λ (l : List ℕ). Some l) (sym c.as_str.ensures.value) in
       elim (rw c.in-Err-Store.field-0-is at c.in-Err-Store.ensures.creates) [
         | inl same ↦ (inl same, refl)
-        | inr created ↦ (inr (c.as_str.result.now, named, created), refl)
+        | inr created ↦ (inr (c.as_str.result.now, subst IsUtf8 (sym c.as_str.ensures.value) c.as_str.ensures.utf8, named, created), refl)
       ];
 }
 

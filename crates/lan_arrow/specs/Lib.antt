@@ -1,0 +1,11 @@
+pub mod Batches
+pub mod Broken
+pub mod BrokenBatch
+pub mod BrokenFooter
+pub mod Deletions
+pub mod Flat
+pub mod Footer
+pub mod Kept
+pub mod Refusals
+pub mod Seen
+pub mod Written

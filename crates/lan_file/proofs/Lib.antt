@@ -1,0 +1,9 @@
+pub mod Pages
+pub mod PartLemmas
+pub mod Written
+pub mod Unique
+pub mod Held
+pub mod Opened
+pub mod Stated
+pub mod Rows
+pub mod Plainly

@@ -1,0 +1,158 @@
+-- What is written of rows holds these rows.
+use Rattle.std.proofs.Common.{◌≡◌, refl, sym, ◌∙◌, ap, ℕ, ◌+◌, ◌*◌, ◌-◌, ◌^◌, ◌<◌, ◌≤◌, List, [], ◌∷◌, ◌++◌, length, drop, replicate, arith, length-append, append_assoc, ◌%◌}
+use Rattle.std.specs.Prelude.{All, codes}
+use Rattle.std.proofs.Math.Seq.{drop-append_seam}
+use Rattle.std.proofs.lemmas.Nat.{from_le_bytes-to_le_bytes_8}
+use Rattle.lan_model.specs.Plain.{PlainField, PlainValue}
+use Rattle.lan_model.specs.Table.{FitsRow}
+use Rattle.lan_file.specs.declared.tail.Footer.{Footer}
+use Rattle.lan_file.specs.declared.tail.Extent.{Extent}
+use Rattle.lan_file.specs.Numbers.{u16_bytes, u32_bytes, u64_bytes}
+use Rattle.lan_file.specs.Texts.{IsRequiredInt64, page_bytes, column_text, descriptor_text}
+use Rattle.lan_file.specs.Writing.{entry_text, footer_text, file_from, file_bytes}
+use Rattle.lan_file.specs.Parts.{part, tail_of, footer_in, footer_of, extent_in, extent, column_of, descriptor_of, HoldsRows}
+use Rattle.lan_file.proofs.PartLemmas.{part-past, part-front, part-here}
+use Rattle.lan_file.proofs.Pages.{length-page_bytes}
+
+abbrev written_footer : ℕ → ℕ → Footer
+written_footer columns_at table = record { columns_at = columns_at; column_table = table; globals_table = table + 16; globals = 1; columns = 1; major = 2; minor = 1 }
+
+footer_read : (columns_at table : ℕ) → columns_at < 2 ^ 64 → table + 16 < 2 ^ 64 → footer_in (footer_text columns_at table) ≡ written_footer columns_at table
+unfolding footer_in u64_bytes u32_bytes u16_bytes
+footer_read columns_at table first second =
+    let a = from_le_bytes-to_le_bytes_8 columns_at first in
+    let b = from_le_bytes-to_le_bytes_8 table (omega (arith, second)) in
+    let c = from_le_bytes-to_le_bytes_8 (table + 16) second in
+    λ i. record { columns_at = a i; column_table = b i; globals_table = c i; globals = 1; columns = 1; major = 2; minor = 1 }
+
+entry_read : (at size : ℕ) → at < 2 ^ 64 → size < 2 ^ 64 → extent_in (entry_text at size) ≡ record { at = at; size = size }
+unfolding extent_in u64_bytes
+entry_read at size first second =
+    let a = from_le_bytes-to_le_bytes_8 at first in
+    let b = from_le_bytes-to_le_bytes_8 size second in
+    λ i. record { at = a i; size = b i }
+
+length-footer_text : (columns_at table : ℕ) → length (footer_text columns_at table) ≡ 40
+unfolding u64_bytes u32_bytes u16_bytes
+length-footer_text columns_at table = refl
+
+length-entry_text : (at size : ℕ) → length (entry_text at size) ≡ 16
+unfolding u64_bytes
+length-entry_text at size = refl
+
+mark_written : (columns_at table : ℕ) → drop 36 (footer_text columns_at table) ≡ codes "LANC"
+unfolding u64_bytes u32_bytes u16_bytes
+mark_written columns_at table = refl
+
+-- the parts of a file that is put together of these
+record Laid (file page column descriptor : List ℕ) : Type 0 where
+  columns_at : ℕ
+  descriptor_at : ℕ
+  long : length file ≡ columns_at + length column + 72
+  tail : tail_of file ≡ footer_text columns_at (columns_at + length column)
+  column_entry : part file (columns_at + length column) 16 ≡ entry_text columns_at (length column)
+  descriptor_entry : part file (columns_at + length column + 16) 16 ≡ entry_text descriptor_at (length descriptor)
+  column_part : part file columns_at (length column) ≡ column
+  descriptor_part : part file descriptor_at (length descriptor) ≡ descriptor
+  descriptor_before : descriptor_at + length descriptor ≡ columns_at
+  page_before : length page ≤ descriptor_at
+  page_part : part file 0 (length page) ≡ page
+
+laid : (page column descriptor : List ℕ) → Laid (file_from page column descriptor) page column descriptor
+laid page column descriptor =
+    let zeros : List ℕ = replicate ((64 - length page % 64) % 64) 0 in
+    let before : List ℕ = page ++ zeros in
+    let front : List ℕ = before ++ descriptor in
+    let at = length front in
+    let e1 = entry_text at (length column) in
+    let e2 = entry_text (length before) (length descriptor) in
+    let foot = footer_text at (at + length column) in
+    let behind : List ℕ = column ++ (e1 ++ (e2 ++ foot)) in
+    let size_1 : length e1 ≡ 16 = length-entry_text at (length column) in
+    let size_2 : length e2 ≡ 16 = length-entry_text (length before) (length descriptor) in
+    let size_3 : length foot ≡ 40 = length-footer_text at (at + length column) in
+    let size_4 : length (e2 ++ foot) ≡ 56 = length-append e2 foot ∙ omega (arith, size_2, size_3) in
+    let size_5 : length (e1 ++ (e2 ++ foot)) ≡ 72 = length-append e1 (e2 ++ foot) ∙ omega (arith, size_1, size_4) in
+    let size_6 : length behind ≡ length column + 72 = length-append column (e1 ++ (e2 ++ foot)) ∙ omega (arith, size_5) in
+    let whole : length (front ++ behind) ≡ at + length column + 72 = length-append front behind ∙ omega (arith, size_6) in
+    let lead : List ℕ = ((front ++ column) ++ e1) ++ e2 in
+    let lead_size : length lead ≡ at + length column + 32 = length-append ((front ++ column) ++ e1) e2 ∙ omega (arith, length-append (front ++ column) e1, length-append front column, size_1, size_2) in
+    let apart : front ++ behind ≡ lead ++ foot = sym (append_assoc ((front ++ column) ++ e1) e2 foot ∙ append_assoc (front ++ column) e1 (e2 ++ foot) ∙ append_assoc front column (e1 ++ (e2 ++ foot))) in
+    let end : length (front ++ behind) - 40 ≡ length lead = omega (arith, whole, lead_size) in
+    record {
+      columns_at = at;
+      descriptor_at = length before;
+      long = whole;
+      tail = ap (λ (n : ℕ). drop n (front ++ behind)) end ∙ ap (drop (length lead)) apart ∙ drop-append_seam lead foot;
+      column_entry = part-past front behind (at + length column) (length column) 16 refl ∙ part-here column e1 (e2 ++ foot) (length column) 16 refl (sym size_1);
+      descriptor_entry =
+          part-past front behind (at + length column + 16) (length column + 16) 16 (omega arith) ∙ part-past column (e1 ++ (e2 ++ foot)) (length column + 16) 16 16 refl ∙ part-here e1 e2 foot 16 16 (sym size_1) (sym size_2);
+      column_part = part-here front column (e1 ++ (e2 ++ foot)) at (length column) refl refl;
+      descriptor_part = ap (λ (l : List ℕ). part l (length before) (length descriptor)) (append_assoc before descriptor behind) ∙ part-here before descriptor behind (length before) (length descriptor) refl refl;
+      descriptor_before = sym (length-append before descriptor);
+      page_before = omega (arith, length-append page zeros);
+      page_part =
+          ap (λ (l : List ℕ). part l 0 (length page)) (append_assoc before descriptor behind ∙ append_assoc page zeros (descriptor ++ behind)) ∙ part-front page (zeros ++ (descriptor ++ behind)) (length page) refl;
+    }
+
+-- a file that is put together of a page and the writer's messages for so many rows holds them
+pub written_holds : (f : PlainField ℕ) (rows : List (List PlainValue)) → IsRequiredInt64 f → 0 < length rows → All (FitsRow (f ∷ [])) rows → length (file_bytes (f ∷ []) rows) < 2 ^ 64 → HoldsRows (f ∷ []) (file_bytes (f ∷ []) rows) rows
+unfolding file_bytes
+written_holds f rows is some fit small =
+    let fields : List (PlainField ℕ) = f ∷ [] in
+    let page = page_bytes rows in
+    let column = column_text (length rows) in
+    let descriptor = descriptor_text fields (length rows) in
+    let file = file_from page column descriptor in
+    let l : Laid file page column descriptor = laid page column descriptor in
+    let size : length page ≡ 8 * length rows = length-page_bytes f rows is fit in
+    let table = l.columns_at + length column in
+    let here : footer_of file ≡ written_footer l.columns_at table =
+    ap footer_in l.tail ∙ footer_read l.columns_at table (omega (arith, l.long, small)) (omega (arith, l.long, small)) in
+    let table_at : (footer_of file).column_table ≡ table = ap (λ (g : Footer). g.column_table) here in
+    let globals_at : (footer_of file).globals_table ≡ table + 16 = ap (λ (g : Footer). g.globals_table) here in
+    let column_is : column_of file ≡ record { at = l.columns_at; size = length column } =
+    ap (λ (n : ℕ). extent_in (part file n 16)) table_at ∙ ap extent_in l.column_entry ∙ entry_read l.columns_at (length column) (omega (arith, l.long, small)) (omega (arith, l.long, small)) in
+    let descriptor_is : descriptor_of file ≡ record { at = l.descriptor_at; size = length descriptor } =
+    ap (λ (n : ℕ). extent_in (part file n 16)) globals_at ∙ ap extent_in l.descriptor_entry ∙ entry_read l.descriptor_at (length descriptor) (omega (arith, l.long, l.descriptor_before, small)) (omega (arith, l.long, l.descriptor_before, small)) in
+    let first_at = ap (λ (g : Footer). g.columns_at) here in
+    let globals = ap (λ (g : Footer). g.globals) here in
+    let columns = ap (λ (g : Footer). g.columns) here in
+    let c_at = ap (λ (e : Extent). e.at) column_is in
+    let c_size = ap (λ (e : Extent). e.size) column_is in
+    let d_at = ap (λ (e : Extent). e.at) descriptor_is in
+    let d_size = ap (λ (e : Extent). e.size) descriptor_is in
+    record {
+      file = record {
+        long = omega (arith, l.long);
+        mark = ap (drop 36) l.tail ∙ mark_written l.columns_at table;
+        major = ap (λ (g : Footer). g.major) here;
+        minor = ap (λ (g : Footer). g.minor) here;
+      };
+      regions = record {
+        tables = record {
+          columns = omega (arith, first_at, table_at);
+          column_table = omega (arith, table_at, columns, globals_at);
+          globals_table = omega (arith, globals_at, globals, l.long);
+        };
+        parts = record {
+          has_column = λ _. record {
+            behind = omega (arith, first_at, c_at);
+            before = omega (arith, table_at, c_at, c_size);
+          };
+          has_descriptor = λ _. omega (arith, d_at, d_size, first_at, l.descriptor_before);
+        };
+      };
+      plain = record {
+        described = omega (arith, globals);
+        one = columns;
+        stated = record {
+          some = some;
+          fits = omega (arith, size, l.page_before, l.descriptor_before, l.long, small);
+          spelled = ap (extent file) descriptor_is ∙ l.descriptor_part;
+        };
+        column = ap (extent file) column_is ∙ l.column_part;
+      };
+      page_before = omega (arith, size, l.page_before, l.descriptor_before, first_at);
+      page = ap (λ (n : ℕ). part file 0 n) (sym size) ∙ l.page_part;
+    }

@@ -1,0 +1,43 @@
+use Rattle.std.proofs.Common.{◌≡◌, ◌∙◌, ◌+◌, ◌-◌, ◌≤◌, length, arith}
+use Rattle.std.proofs.lemmas.Result.{err_from_is_err_and}
+use Rattle.lan_store.specs.Objects.{object}
+use Rattle.lan_file.specs.declared.fault.FileReason.TheVariants.{TooShort}
+use Rattle.lan_file.specs.Asking.{IsSizeOf}
+use Rattle.lan_file.specs.Opening.{IsOpened}
+use Rattle.lan_file.specs.Parts.{part}
+use Rattle.lan_file.specs.Reasons.{StandsIn}
+use Rattle.lan_file.proofs.Held.{one, both, both_break, part_breaks}
+use Rattle.lan_file.proofs.Opened.{judged_err, judged_ok}
+use Rattle.lan_file.proofs.opening.open.Goals as goal
+
+pub returns-in_err-size-clause-answer : goal.returns-in_err-size-clause-answer
+returns-in_err-size-clause-answer g c = λ all told fields rows.
+    let p = err_from_is_err_and c.from_residual.result c.from_residual.ensures.1 in rw (p.1, p.2) (c.in_err-size.ensures.answer all told fields rows)
+
+pub returns-then-size-lt40-clause-answer : goal.returns-then-size-lt40-clause-answer
+returns-then-size-lt40-clause-answer g c = λ all told fields rows.
+    one (object all c.args.name.now) (λ bytes. IsSizeOf bytes c.in_ok-size.size) (λ bytes. StandsIn fields rows bytes TooShort c.in_ok-size.size) (c.in_ok-size.ensures.answer all told fields rows) (λ bytes is. (omega (arith, is.1, c.if-size-lt40.true), is.1))
+
+pub returns-in_err-tail-clause-answer : goal.returns-in_err-tail-clause-answer
+returns-in_err-tail-clause-answer g c = λ all told fields rows.
+    let p = err_from_is_err_and c.from_residual-in_err-tail.result c.from_residual-in_err-tail.ensures.1 in
+    let held = object all c.args.name.now in
+    let within = one held (λ bytes. IsSizeOf bytes c.in_ok-size.size) (λ bytes. c.in_ok-size.size - 40 + 40 ≤ length bytes) (c.in_ok-size.ensures.answer all told fields rows) (λ bytes is. omega (arith, is.1, c.if-size-lt40.false)) in
+    rw (p.1, p.2) (part_breaks fields rows held (c.in_ok-size.size - 40) 40 c.in_err-tail.field-0.0 within (c.in_err-tail.ensures.answer all (c.size_of.ensures.asked.kept ∙ told)))
+
+pub returns-in_err-footer-clause-answer : goal.returns-in_err-footer-clause-answer
+returns-in_err-footer-clause-answer g c = λ all told fields rows.
+    let p = err_from_is_err_and c.from_residual-in_err-footer.result c.from_residual-in_err-footer.ensures.1 in
+    let size = c.in_ok-size.size in
+    let tail = c.in_ok-tail.tail in
+    rw (p.1, p.2) (both_break fields rows (object all c.args.name.now) c.in_err-footer.field-0.0 (λ bytes. IsSizeOf bytes size) (λ bytes. (size - 40 + 40 ≤ length bytes) × (tail ≡ part bytes (size - 40) 40))
+    (c.in_ok-size.ensures.answer all told fields rows) (c.in_ok-tail.ensures.answer all (c.size_of.ensures.asked.kept ∙ told))
+    (λ bytes is found. judged_err fields rows bytes c.as_slice.result.now size c.in_err-footer.field-0.0 is (omega (arith, c.if-size-lt40.false)) (c.as_slice.ensures ∙ found.1) c.in_err-footer.ensures))
+
+pub returns-clause-answer : goal.returns-clause-answer
+returns-clause-answer g c = λ all told fields rows.
+    let size = c.in_ok-size.size in
+    let tail = c.in_ok-tail.tail in
+    both (object all c.args.name.now) (λ bytes. IsSizeOf bytes size) (λ bytes. (size - 40 + 40 ≤ length bytes) × (tail ≡ part bytes (size - 40) 40)) (λ bytes. IsOpened bytes (record { size = size; footer = c.in_ok-footer.footer }))
+    (c.in_ok-size.ensures.answer all told fields rows) (c.in_ok-tail.ensures.answer all (c.size_of.ensures.asked.kept ∙ told))
+    (λ bytes is found. judged_ok bytes c.as_slice.result.now size c.in_ok-footer.footer is (omega (arith, c.if-size-lt40.false)) (c.as_slice.ensures ∙ found.1) c.in_ok-footer.ensures)

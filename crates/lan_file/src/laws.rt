@@ -1,0 +1,25 @@
+//! What holds of data files, each law as the contract of a function with an empty body.
+
+ghost use Rattle.std.specs.Prelude.{◌≡◌, ℕ, ◌^◌, ◌<◌, List, [], ◌∷◌, length, All, Some};
+ghost use Rattle.lan_model.specs.Plain.{PlainField, PlainValue};
+ghost use Rattle.lan_model.specs.Table.{FitsRow};
+ghost use Rattle.lan_file.specs.declared.fault.FileReason.{FileReason};
+ghost use Rattle.lan_file.specs.Parts.{HoldsRows};
+ghost use Rattle.lan_file.specs.Reasons.{IsSmall, Stands};
+ghost use Rattle.lan_file.specs.Texts.{IsRequiredInt64};
+ghost use Rattle.lan_file.specs.Writing.{file_bytes};
+
+/// What is written of rows holds these rows.
+pub fn written_files_hold_their_rows()
+    ensures { (f : PlainField ℕ) (rows : List (List PlainValue)) → IsRequiredInt64 f → 0 < length rows → All (FitsRow (f ∷ [])) rows → length (file_bytes (f ∷ []) rows) < 2 ^ 64 → HoldsRows (f ∷ []) (file_bytes (f ∷ []) rows) rows }
+{}
+
+/// Bytes hold one list of rows.
+pub fn files_hold_one_list()
+    ensures { (f : PlainField ℕ) (bytes : List ℕ) (xs ys : List (List PlainValue)) → IsRequiredInt64 f → All (FitsRow (f ∷ [])) xs → All (FitsRow (f ∷ [])) ys → HoldsRows (f ∷ []) bytes xs → HoldsRows (f ∷ []) bytes ys → xs ≡ ys }
+{}
+
+/// Where an object of at most 2^30 bytes holds as many rows as are asked, no reason stands.
+pub fn held_rows_have_no_reason()
+    ensures { (fields : List (PlainField ℕ)) (bytes : List ℕ) (rows : List (List PlainValue)) (reason : FileReason) (place : ℕ) → HoldsRows fields bytes rows → IsSmall bytes → Stands fields (length rows) (Some bytes) reason place → ⊥ }
+{}

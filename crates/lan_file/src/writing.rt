@@ -1,0 +1,102 @@
+ghost use Rattle.std.specs.Prelude.{◌≡◌, ◌+◌, ◌^◌, ◌<◌, ◌++◌, [], ◌∷◌, length, map, All, OnOk, IfOk};
+ghost use Rattle.lan_model.specs.Plain.{plain_field, plain_value};
+ghost use Rattle.lan_model.specs.PlainTable.{row_of};
+ghost use Rattle.lan_model.specs.Table.{FitsRow};
+ghost use Rattle.lan_file.specs.Numbers.{u16_bytes, u32_bytes, u64_bytes};
+ghost use Rattle.lan_file.specs.Texts.{IsRequiredInt64, value_bytes, page_bytes};
+ghost use Rattle.lan_file.specs.Writing.{entry_text, footer_text, file_bytes};
+
+use crate::texts::{column_text, descriptor_text};
+use lan_bytes::Out;
+use lan_model::{Field, Row, Rows, Val};
+use std::alloc::{AllocError, Global};
+
+#[tactic(auto, unfolding(crate::specs::Numbers::u64_bytes))]
+fn put_u64(n: u64, out: &mut Out) -> Result<(), AllocError>
+    ensures { OnOk result (out.new ≡ out.old ++ u64_bytes n) }
+{
+    out.num(n, 8)
+}
+
+#[tactic(auto, unfolding(crate::specs::Numbers::u32_bytes))]
+fn put_u32(n: u32, out: &mut Out) -> Result<(), AllocError>
+    ensures { OnOk result (out.new ≡ out.old ++ u32_bytes n) }
+{
+    out.num(u64::from(n), 4)
+}
+
+#[tactic(auto, unfolding(crate::specs::Numbers::u16_bytes))]
+fn put_u16(n: u16, out: &mut Out) -> Result<(), AllocError>
+    ensures { OnOk result (out.new ≡ out.old ++ u16_bytes n) }
+{
+    out.num(u64::from(n), 2)
+}
+
+fn put_row(row: &[Val], out: &mut Out) -> Result<(), AllocError>
+    ensures { OnOk result (out.new ≡ out.old ++ value_bytes (map plain_value row.now)) }
+{
+    match row {
+        [Val::Bits(bits)] => put_u64(*bits, out),
+        _ => Ok(()),
+    }
+}
+
+fn put_rows(rows: &[Row], out: &mut Out) -> Result<(), AllocError>
+    ensures { OnOk result (out.new ≡ out.old ++ page_bytes (map row_of rows.now)) }
+{
+    for row in rows {
+        put_row(row.as_slice(), out)?;
+    }
+    Ok(())
+}
+
+// Where a part lies, and how long it is.
+#[tactic(auto, using(std::proofs::Common::append_assoc))]
+fn put_entry(at: u64, size: u64, out: &mut Out) -> Result<(), AllocError>
+    ensures { OnOk result (out.new ≡ out.old ++ entry_text at size) }
+{
+    put_u64(at, out)?;
+    put_u64(size, out)
+}
+
+// The footer of a file of one column, one global buffer and version 2.1.
+fn put_footer(columns_at: u64, table: u64, out: &mut Out) -> Result<(), AllocError>
+    requires { table + 16 < 2 ^ 64 }
+    ensures { OnOk result (out.new ≡ out.old ++ footer_text columns_at table) }
+{
+    put_u64(columns_at, out)?;
+    put_u64(table, out)?;
+    put_u64(table + 16, out)?;
+    put_u32(1, out)?;
+    put_u32(1, out)?;
+    put_u16(2, out)?;
+    put_u16(1, out)?;
+    out.bytes(b"LANC")?;
+    Ok(())
+}
+
+/// The data file of these rows, in version 2.1 of the Lance format: one page at the front, its values
+/// eight bytes each, the descriptor at the next multiple of 64, and all that follows without a gap.
+#[tactic(auto, using(crate::proofs::Pages::length_of_page, std::proofs::Common::append_assoc), unfolding(crate::specs::Writing::file_bytes))]
+pub fn plain_file(alloc: Global, field: &Field, rows: &Rows) -> Result<Vec<u8>, AllocError>
+    requires column { IsRequiredInt64 (plain_field field.now) }
+    requires some { 0 < length rows.now }
+    requires fit { All (FitsRow (plain_field field.now ∷ [])) (map row_of rows.now) }
+    ensures { IfOk result (λ file. file.items ≡ file_bytes (plain_field field.now ∷ []) (map row_of rows.now)) }
+{
+    let mut out = Out::new(alloc);
+    put_rows(rows.as_slice(), &mut out)?;
+    let column = column_text(alloc, rows.len())?;
+    let descriptor = descriptor_text(alloc, field, rows.len())?;
+    let end = out.len() % 64;
+    out.zeros((64 - end) % 64)?;
+    let descriptor_at = out.len();
+    out.bytes(descriptor.as_slice())?;
+    let columns_at = out.len();
+    out.bytes(column.as_slice())?;
+    let table = out.len();
+    put_entry(columns_at, column.len() as u64, &mut out)?;
+    put_entry(descriptor_at, descriptor.len() as u64, &mut out)?;
+    put_footer(columns_at, table, &mut out)?;
+    Ok(out.finish())
+}

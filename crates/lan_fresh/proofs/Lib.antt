@@ -1,0 +1,4 @@
+pub mod Files
+pub mod Greatest
+pub mod PathRules
+pub mod Paths

@@ -1,0 +1,11 @@
+pub mod ColumnItems
+pub mod DistinctIds
+pub mod FragmentItems
+pub mod Listing
+pub mod MessageItems
+pub mod OneManifest
+pub mod ReadManifests
+pub mod Spellings
+pub mod Texts
+pub mod Walking
+pub mod WrittenItems

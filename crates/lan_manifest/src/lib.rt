@@ -1,0 +1,20 @@
+//! Manifests: what a version of a dataset is made of, read and written, and the names of versions.
+#![tactic(auto)]
+
+mod columns;
+mod fragments;
+mod items;
+mod laws;
+mod manifest;
+mod reading;
+mod rules;
+#[cfg(test)]
+mod tests;
+mod versions;
+mod writing;
+
+pub use laws::one_manifest;
+pub use manifest::{DataFile, DataFiles, Deletion, Fragment, Fragments, Manifest};
+pub use reading::{ManifestFault, read_manifest};
+pub use versions::{list_versions, name_of_version, version_of_name};
+pub use writing::write_manifest;

@@ -1,0 +1,47 @@
+-- Slots that no value of a field has: nulls of what is not nullable, and texts that are not UTF-8.
+use Rattle.std.specs.Prelude.{◌≡◌, ℕ, zero, suc, ◌+◌, Bool, false, List, [], ◌∷◌, length, Contains, IsUtf8, ◌⊎◌}
+use Rattle.lan_model.specs.Plain.{text, list, struct, PlainField, field, PlainFields, no_fields, one_field}
+use Rattle.lan_levels.specs.declared.slot.State.TheVariants as state
+use Rattle.lan_levels.specs.declared.slot.SlotRun.{SlotRun}
+use Rattle.lan_levels.specs.PlainSlots.{bytes, PlainSlot, plain_slots}
+use Rattle.lan_levels.specs.SlotsOf.{slot}
+use Rattle.lan_levels.specs.EachLeaf.{leaf_count, EachLeaf, SomeLeaf}
+
+-- the slots of the run at a place, none past the end
+abbrev pub slots_at : List SlotRun → ℕ → List PlainSlot
+slots_at [] j = []
+slots_at (run ∷ runs) zero = plain_slots run.slots
+slots_at (run ∷ runs) (suc j) = slots_at runs j
+
+-- one of the slots says that the layer with so many inside is null
+pub record HasNull (slots : List PlainSlot) (depth : ℕ) : Type 0 where
+  pub slot : PlainSlot
+  pub stands : Contains slots slot
+  pub null : slot.state ≡ state.Null depth
+
+-- in each leaf of the field, which is not nullable, a slot says that it is null
+pub record IsBadNull (n : Bool) (f : PlainField ℕ) (i : ℕ) (slots : ℕ → List PlainSlot) : Type 0 where
+  pub not_nullable : n ≡ false
+  pub nulls : EachLeaf f i (λ d j ty path. (depth : ℕ) × (depth + 1 ≡ length path) × HasNull (slots j) depth)
+
+abbrev mutual
+  -- the field of the number `id`, or inside it, has such nulls
+  pub HasBadNull : PlainField ℕ → ℕ → (ℕ → List PlainSlot) → ℕ → Type 0
+  HasBadNull (field d name n (list item)) i slots id = ((d ≡ id) × IsBadNull n (field d name n (list item)) i slots) ⊎ HasBadNull item i slots id
+  HasBadNull (field d name n (struct members)) i slots id = ((d ≡ id) × IsBadNull n (field d name n (struct members)) i slots) ⊎ SomeHasBadNull members i slots id
+  HasBadNull (field d name n ty) i slots id = (d ≡ id) × IsBadNull n (field d name n ty) i slots
+
+  pub SomeHasBadNull : PlainFields ℕ → ℕ → (ℕ → List PlainSlot) → ℕ → Type 0
+  SomeHasBadNull no_fields i slots id = ⊥
+  SomeHasBadNull (one_field f fs) i slots id = HasBadNull f i slots id ⊎ SomeHasBadNull fs (i + leaf_count f) slots id
+
+-- one of the slots has a text that is not UTF-8
+pub record IsBadText (slots : List PlainSlot) : Type 0 where
+  pub rep : ℕ
+  pub text : List ℕ
+  pub stands : Contains slots (slot rep state.Here (bytes text))
+  pub bad : IsUtf8 text → ⊥
+
+-- a text leaf of the number `id` has such a slot
+abbrev pub HasBadText : PlainField ℕ → ℕ → (ℕ → List PlainSlot) → ℕ → Type 0
+HasBadText f i slots id = SomeLeaf f i (λ d j ty path. (d ≡ id) × (ty ≡ text) × IsBadText (slots j))

@@ -1,0 +1,10 @@
+pub mod Codes
+pub mod Determine
+pub mod Joins
+pub mod Kept
+pub mod PlainSlots
+pub mod SlotsOf
+pub mod EachLeaf
+pub mod Loosened
+pub mod BadSlots
+pub mod Taken

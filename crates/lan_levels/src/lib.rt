@@ -1,0 +1,27 @@
+//! The slots of values in leaves, and the codes of layers.
+#![tactic(auto)]
+
+mod assembling;
+mod bare;
+mod buffer;
+mod codes;
+mod cursor;
+mod join;
+mod law;
+mod leaf_value;
+mod shape;
+mod shredding;
+mod slot;
+mod walk;
+
+pub use assembling::assemble;
+pub use buffer::SlotBuf;
+pub use codes::{Codes, codes_fit, codes_of, greatest, is_bare, number_of, state_of};
+pub use join::Join;
+pub use law::slots_determine;
+pub use shape::{Shape, ValueKind};
+pub use shredding::shred;
+pub use slot::{Piece, Runs, Slot, SlotRun, Slots, State};
+
+#[cfg(test)]
+mod tests;

@@ -1,0 +1,21 @@
+use crate::codes::Codes;
+use lan_model::{Blob, Leaf};
+
+/// How the values of a page's slots are stored.
+#[derive(Drop)]
+pub enum ValueKind {
+    /// So many bits a value, one value after another; bools from the lowest bit of each byte.
+    Flat(u64),
+    /// Offsets of four bytes, then the values' bytes.
+    Variable,
+    /// Each value has these bytes, and the page stores none; a bool has one byte, 0 for false.
+    Constant(Blob),
+}
+
+/// What a page's bytes are read by: the layer codes, the leaf, and how values are stored.
+#[derive(Clone, Copy)]
+pub struct Shape<'a> {
+    pub codes: &'a Codes,
+    pub leaf: &'a Leaf,
+    pub values: &'a ValueKind,
+}

@@ -9,7 +9,8 @@ A case is a text file. Each line begins with a word that says what it is:
   set PATH         the dataset's folder for the next runs, in place of `set`
   run WORDS        runs the program with the folder and these words, split as a shell splits them
   bare WORDS       runs the program with these words alone
-  in TEXT          a line of the last run's input (`in-hex HEX`: bytes of it, as they are)
+  in TEXT          a line of the last run's input (`in-hex HEX`: bytes of it, as they are; `in-times N
+                   TEXT`: a text so often, without newlines)
   out TEXT         a line that the last run has to print; what isn't named may not be printed
   err TEXT         the line that it has to print on standard error
   status N         its status, 0 where the line is missing
@@ -117,6 +118,9 @@ def faults_of(path, program, place):
                 current.input += rest.encode() + b"\n"
             elif word == "in-hex":
                 current.input += hexes(rest)
+            elif word == "in-times":
+                times, _, text = rest.partition(" ")
+                current.input += text.encode() * int(times)
             elif word == "out":
                 current.out += rest.encode() + b"\n"
             elif word == "err":

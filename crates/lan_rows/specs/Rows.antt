@@ -1,5 +1,5 @@
 -- The row that a line is, and the line that is printed for a row: of one column of int64 that is never null, until all types are read.
-use Rattle.std.specs.Prelude.{ℕ, ◌-◌, ◌^◌, List, [], ◌∷◌, ◌++◌, length, ℤ, pos, negsuc, false, cond, nat_lt, nat_le, nat_eq, codes, Option, Some, None, option_and_then, option_map}
+use Rattle.std.specs.Prelude.{◌≡◌, ◌<◌, ℕ, ◌-◌, ◌^◌, List, [], ◌∷◌, ◌++◌, length, ℤ, pos, negsuc, false, cond, nat_lt, nat_le, nat_eq, codes, Option, Some, None, option_and_then, option_map}
 use Rattle.std.specs.Str.{is_utf8}
 use Rattle.std.specs.Fmt.{signed_decimal}
 use Rattle.serde_json.specs.Data.{Data}
@@ -32,6 +32,10 @@ read_column columns = None
 -- a row of one number, as its bits in two's complement
 abbrev pub row_of_int64 : ℤ → List PlainValue
 row_of_int64 z = bits (two_complement z) ∷ []
+
+-- a row of one value of 64 bits
+abbrev pub IsBits : List PlainValue → Type 0
+IsBits row = (b : ℕ) × (b < 2 ^ 64) × (row ≡ bits b ∷ [])
 
 -- the row that the line is
 unfoldable pub row_of : List Column → List ℕ → Option (List PlainValue)

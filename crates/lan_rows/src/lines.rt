@@ -1,6 +1,8 @@
 // The rows of an input of lines.
-ghost use Rattle.std.specs.Prelude.{◌≡◌, ◌≢◌, ℕ, ◌+◌, ◌<◌, ◌≤◌, ◌∷◌, [], Ok, Err, length, map, IfOk, IfErr};
+ghost use Rattle.std.specs.Prelude.{◌≡◌, ◌≢◌, ℕ, ◌+◌, ◌<◌, ◌≤◌, ◌∷◌, [], Ok, Err, length, map, All, IfOk, IfErr};
+ghost use Rattle.lan_model.specs.Plain.{plain_field};
 ghost use Rattle.lan_model.specs.PlainTable.{column_of, row_of};
+ghost use Rattle.lan_model.specs.Table.{FitsRow};
 ghost use Rattle.lan_rows.specs.Lines.{cut, rows_of, LinesAre};
 
 use crate::reading::{RowFault, read_row};
@@ -29,7 +31,8 @@ impl From<AllocError> for LinesFault {
 /// The rows of the lines of an input. Each line ends at a newline; the last one may lack it, and
 /// nothing follows a final newline.
 pub fn read_rows(alloc: Global, fields: &FieldList, input: &[u8]) -> Result<Rows, LinesFault>
-    ensures { LinesAre (rows_of (map column_of fields.now) (cut 1 [] input.now)) result }
+    ensures rows { LinesAre (rows_of (map column_of fields.now) (cut 1 [] input.now)) result }
+    ensures fit { IfOk result (λ rows. All (FitsRow (map plain_field fields.now)) (map row_of rows)) }
 {
     let mut rows = Rows::new(alloc);
     let mut rest = input;

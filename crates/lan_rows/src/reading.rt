@@ -1,10 +1,11 @@
 // The row that a line is.
 ghost use Rattle.std.specs.Prelude.{◌≡◌, ◌↔◌, ◌≤◌, ◌^◌, length, map, Some, None, IfOk, IsErrOf, option_map};
 ghost use Rattle.serde_json.specs.View.{view};
-ghost use Rattle.lan_model.specs.Plain.{plain_value};
+ghost use Rattle.lan_model.specs.Plain.{plain_field, plain_value};
 ghost use Rattle.lan_model.specs.PlainTable.{column_of};
+ghost use Rattle.lan_model.specs.Table.{FitsRow};
 ghost use Rattle.lan_rows.specs.Members.{members_in};
-ghost use Rattle.lan_rows.specs.Rows.{value_of, int64_in, int64_of_line, read_column, row_of_int64, row_of};
+ghost use Rattle.lan_rows.specs.Rows.{IsBits, value_of, int64_in, int64_of_line, read_column, row_of_int64, row_of};
 
 use lan_model::{FieldList, List, Primitive, Row, Ty, Val};
 use serde_json::Value;
@@ -28,6 +29,7 @@ pub const MAX_LINE: usize = 1 << 26;
 #[tactic(auto, unfolding(crate::specs::Rows::row_of))]
 pub fn read_row(alloc: Global, fields: &FieldList, line: &[u8]) -> Result<Row, RowFault>
     ensures ok { IfOk result (λ row. row_of (map column_of fields.now) line.now ≡ Some (map plain_value row)) }
+    ensures fit { IfOk result (λ row. FitsRow (map plain_field fields.now) (map plain_value row)) }
     ensures bad { IsErrOf result RowFault.Bad → row_of (map column_of fields.now) line.now ≡ None }
 {
     let Some(name) = read_column(fields) else {
@@ -57,6 +59,7 @@ pub fn read_column(fields: &FieldList) -> Option<&str>
 
 fn one_number(alloc: Global, number: i64) -> Result<Row, RowFault>
     ensures ok { IfOk result (λ row. map plain_value row ≡ row_of_int64 number) }
+    ensures bits { IfOk result (λ row. IsBits (map plain_value row)) }
     ensures err { IsErrOf result RowFault.Bad → ⊥ }
 {
     match row_of(alloc, number) {
@@ -66,7 +69,8 @@ fn one_number(alloc: Global, number: i64) -> Result<Row, RowFault>
 }
 
 fn row_of(alloc: Global, number: i64) -> Result<Row, AllocError>
-    ensures { IfOk result (λ row. map plain_value row ≡ row_of_int64 number) }
+    ensures ok { IfOk result (λ row. map plain_value row ≡ row_of_int64 number) }
+    ensures bits { IfOk result (λ row. IsBits (map plain_value row)) }
 {
     let mut row = List::with_capacity(alloc, 1)?;
     row.push(Val::Bits(number.cast_unsigned()))?;

@@ -1,5 +1,5 @@
 -- The name of a column that is taken has from 1 to 65,536 bytes.
-use Rattle.std.proofs.Common.{◌≡◌, refl, ◌∙◌, ap, ℕ, ◌<◌, ◌≤◌, List, length, arith, Bool, true, false, cond}
+use Rattle.std.proofs.Common.{◌≡◌, refl, ℕ, ◌<◌, ◌≤◌, List, length, arith, Bool, true, false, cond}
 use Rattle.std.specs.Prelude.{Option, Some, None, codes, bytes_eq, nat_eq, nat_lt, nat_le, ◌&&◌, option_and_then}
 use Rattle.std.proofs.lemmas.Bool.Decides.{nat_tests}
 use Rattle.serde_json.specs.Data.{Data}

@@ -5,15 +5,15 @@ use Rattle.std.proofs.lemmas.Option.{same_Some}
 use Rattle.lan_model.specs.Dataset.{Dataset, newest, with_version}
 use Rattle.lan_store.specs.declared.name.Object.{Object}
 use Rattle.lance_cli.specs.Clauses.{IsReply}
-use Rattle.lance_cli.specs.Commands.{create, column_name}
+use Rattle.lance_cli.specs.Commands.{Asked, create, column_name}
 use Rattle.lance_cli.specs.Puts.{Shows}
 use Rattle.lance_cli.specs.Replies.{Told, Shown, Outcome, refused, done, answer, create_reply, asked_of}
 use Rattle.lance_cli.specs.Reports.{version_text}
 use Rattle.lance_cli.specs.declared.fault.Fault.TheVariants.{AlreadyThere, NotBuilt}
-use Rattle.lance_cli.proofs.FirstTable.{no_rows}
+use Rattle.lan_commit.specs.First.{no_rows}
 
-pub told_create : (words : List (List ℕ)) (old : List Object) (input : List ℕ) (d : Dataset) (told : Told) (outcome : Outcome) (json : List ℕ) → IsReply words old input d told outcome → asked_of words ≡ Some (create json) → told.asked ≡ create json
-told_create words old input d told outcome json r is = same_Some told.asked (create json) (sym r.tells.asked ∙ is)
+pub told_as : (words : List (List ℕ)) (old : List Object) (input : List ℕ) (d : Dataset) (told : Told) (outcome : Outcome) (asked : Asked) → IsReply words old input d told outcome → asked_of words ≡ Some asked → told.asked ≡ asked
+told_as words old input d told outcome asked r is = same_Some told.asked asked (sym r.tells.asked ∙ is)
 
 pub outcome_is : (words : List (List ℕ)) (old : List Object) (input : List ℕ) (d : Dataset) (told : Told) (outcome expected : Outcome) (json : List ℕ) → IsReply words old input d told outcome → told.asked ≡ create json
     → answer d told (create json) ≡ Some expected → outcome ≡ expected

@@ -1,10 +1,10 @@
 -- What a schema's value has in it, by the value's view.
-use Rattle.std.proofs.Common.{◌≡◌, ◌≢◌, refl, sym, ◌∙◌, ap, ℕ, List, [], ◌∷◌, length, map, arith}
-use Rattle.std.specs.Prelude.{Option, Some, None, String}
+use Rattle.std.proofs.Common.{◌≡◌, ◌≢◌, refl, ◌∙◌, ap, List, [], ◌∷◌, length, map, arith}
+use Rattle.std.specs.Prelude.{Some, None, String}
 use Rattle.std.specs.declared.alloc.Global.{Global}
-use Rattle.serde_json.specs.Data.{Data, null, boolean, number, string, array, object, Items, no_items, item, Members}
+use Rattle.serde_json.specs.Data.{Data, null, boolean, number, string, array, object, Members}
 use Rattle.serde_json.specs.Find.{as_array, as_object}
-use Rattle.serde_json.specs.View.{view, items_of, items_view, members_of, members_view}
+use Rattle.serde_json.specs.View.{items_view, members_of, members_view}
 use Rattle.serde_json.specs.declared.value.Value.{Value}
 use Rattle.lan_rows.specs.Members.{count_members, members_in}
 use Rattle.lance_cli.specs.Commands.{only_item}

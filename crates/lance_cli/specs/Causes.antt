@@ -1,5 +1,5 @@
 -- Why each fault comes: one word a variant.
-use Rattle.std.specs.Prelude.{◌≡◌, ℕ, ◌<◌, ◌^◌, ⊤, List, [], length, codes, map, Option, Some, None, IsSomeAnd, Result, Ok, Err}
+use Rattle.std.specs.Prelude.{◌≡◌, ℕ, ◌<◌, ◌^◌, ⊤, List, [], length, codes, map, Option, Some, None, Result, Ok, Err}
 use Rattle.std.specs.Option.{ForSome}
 use Rattle.lan_model.specs.Plain.{unnumbered}
 use Rattle.lan_model.specs.Table.{Table}
@@ -7,20 +7,18 @@ use Rattle.lan_store.specs.declared.name.Name.{Name}
 use Rattle.lan_store.specs.declared.name.Object.{Object}
 use Rattle.lance_cli.specs.Commands.{Asked, create, append, column_name}
 use Rattle.lan_model.specs.Plain.{PlainValue}
-use Rattle.lan_store.specs.Objects.{object}
-use Rattle.lan_manifest.specs.Reads.{ManifestOf}
 use Rattle.lan_manifest.specs.Manifests.{PlainManifest}
-use Rattle.lance_cli.specs.Puts.{NewestManifest, limit_of}
+use Rattle.lan_commit.specs.Puts.{limit_of}
+use Rattle.lan_read.specs.Newest.{NewestManifest}
+use Rattle.lan_read.specs.Reasons.{Stands}
 use Rattle.lance_cli.specs.Replies.{asked_of, lines_for}
 use Rattle.lan_rows.specs.Lines.{rows_of}
-use Rattle.lance_cli.specs.Standing.{StandsAt}
-use Rattle.lan_manifest.specs.Versions.{IsNewest, NoneListed, manifest_name}
+use Rattle.lan_read.specs.Standing.{StandsAt}
+use Rattle.lan_manifest.specs.Versions.{IsNewest, NoneListed}
 use Rattle.lance_cli.specs.declared.fault.Fault.{Fault}
 use Rattle.lance_cli.specs.declared.fault.Fault.TheVariants as fault
-use Rattle.lance_cli.specs.declared.fault.ManifestFault.TheVariants as manifest
-use Rattle.lance_cli.specs.declared.fault.Reason.{Reason}
-use Rattle.lance_cli.specs.declared.fault.Reason.TheVariants as reason
-use Rattle.lance_cli.specs.declared.fault.Which.{Which}
+use Rattle.lan_read.specs.declared.fault.Reason.{Reason}
+use Rattle.lan_commit.specs.declared.limits.Which.{Which}
 
 -- the words, the objects where they are told, and the input where it is told, all as they were before
 pub record Entry : Type 0 where
@@ -64,13 +62,6 @@ InputTooLong e = (asked : Asked) × (asked_of e.words ≡ Some asked) × ForSome
 abbrev pub Limit : Entry → Which → ℕ → Type 0
 Limit e which number = (asked_of e.words ≡ Some append)
     × ForSome e.objects (λ all. ForSome e.input (λ input. (m : PlainManifest) × (rows : List (List PlainValue)) × NewestManifest all m × (rows_of (map unnumbered m.fields) (lines_for append input) ≡ Ok rows) × (limit_of all m rows ≡ Some (which, number))))
-
--- the reason stands in the object at the place; each reader brings the cases of its own reasons
-abbrev pub Stands : List Object → ℕ → Name → Reason → ℕ → Type 0
-Stands all version name reason.Missing place = (object all name ≡ None) × (place ≡ 0)
-Stands all version name reason.Size place = IsSomeAnd (object all name) (λ bytes. (2 ^ 30 < length bytes) × (place ≡ length bytes))
-Stands all version name reason.Short place = ⊥
-Stands all version name (reason.Manifest manifest.Plain) place = (name ≡ manifest_name version) × (place ≡ 0) × IsSomeAnd (object all name) (λ bytes. (m : PlainManifest) → ManifestOf bytes version m → ⊥)
 
 -- the version that is read is listed, and doesn't stand, and the reason stands
 abbrev pub Outside : Entry → Name → Reason → ℕ → Type 0

@@ -1,16 +1,21 @@
 -- What a run does to the tables, said of the objects and the sink.
-use Rattle.std.specs.Prelude.{◌≡◌, ℕ, ◌⊎◌, ◌^◌, ◌<◌, ◌≤◌, ⊤, cond, nat_lt, List, [], ◌++◌, length, take, Option, Some, Result, Ok, Err, OnOk}
+use Rattle.std.specs.Prelude.{◌≡◌, ℕ, ◌⊎◌, ◌^◌, ◌<◌, ◌≤◌, ⊤, cond, nat_lt, List, [], ◌++◌, length, take, map, codes, Option, Some, Result, Ok, Err, OnOk}
 use Rattle.std.specs.Option.{ForSome}
 use Rattle.lan_model.specs.Dataset.{Dataset}
 use Rattle.lan_model.specs.Table.{Table}
 use Rattle.lan_store.specs.Causes.{Rose}
 use Rattle.lan_store.specs.Streams.{and_then_bytes}
 use Rattle.lan_store.specs.declared.name.Object.{Object}
-use Rattle.lance_cli.specs.Causes.{Entry, heard}
+use Rattle.lan_model.specs.Plain.{PlainValue, unnumbered}
+use Rattle.lan_manifest.specs.Manifests.{PlainManifest}
+use Rattle.lan_rows.specs.Lines.{rows_of}
+use Rattle.lan_read.specs.Newest.{NewestManifest}
+use Rattle.lan_commit.specs.Puts.{limit_of}
+use Rattle.lance_cli.specs.Causes.{Entry, heard, IsLong}
 use Rattle.lance_cli.specs.Commands.{Asked, append, scan}
 use Rattle.lance_cli.specs.Puts.{Puts, Shows}
 use Rattle.lance_cli.specs.Replies.{Told, Outcome, refused, done, reply, Tells, asked_of, lines_for}
-use Rattle.lance_cli.specs.Standing.{StandsAt, Agrees}
+use Rattle.lan_read.specs.Standing.{StandsAt, Agrees}
 use Rattle.lance_cli.specs.declared.fault.Fault.{Fault}
 use Rattle.lance_cli.specs.declared.fault.Fault.TheVariants as fault
 
@@ -63,6 +68,25 @@ Fails store_old store_new source_old source_new sink_old sink_new = Rose store_o
 -- where no count of faults rose, the answer is that of the reply, or want of memory
 abbrev pub Decided : Entry → Type 0 → Result Unit Fault → Type 0
 Decided e Fails result = (Fails → ⊥) → OnReply e (λ old input d told outcome. (result ≡ expected told.asked input outcome) ⊎ (result ≡ Err fault.Memory))
+
+-- a refusal that the input's lines and the newest version's manifest decide, whether or not its data stands
+abbrev pub RefusedBy : List Object → List ℕ → PlainManifest → Fault → Type 0
+RefusedBy old input m (fault.BadInput line why) = (why ≡ codes "bad row") × (rows_of (map unnumbered m.fields) (lines_for append input) ≡ Err line)
+RefusedBy old input m (fault.Limit which number) = (rows : List (List PlainValue)) × (rows_of (map unnumbered m.fields) (lines_for append input) ≡ Ok rows) × (limit_of old m rows ≡ Some (which, number))
+RefusedBy old input m f = ⊥
+
+-- the fault is answered, or want of memory
+abbrev pub Answers : Fault → Result Unit Fault → Type 0
+Answers f result = (result ≡ Err f) ⊎ (result ≡ Err fault.Memory)
+
+-- too much of an input is refused before anything is read, and lines and limits where the manifest reads
+pub record Refusals (e : Entry) (result : Result Unit Fault) : Type 0 where
+  pub long : (asked : Asked) → asked_of e.words ≡ Some asked → ForSome e.input (λ input. IsLong asked input → Answers fault.InputTooLong result)
+  pub due : asked_of e.words ≡ Some append → ForSome e.objects (λ old. ForSome e.input (λ input. (m : PlainManifest) (f : Fault) → NewestManifest old m → length input ≤ 2 ^ 28 → RefusedBy old input m f → Answers f result))
+
+-- where no count of faults rose, these refusals come
+abbrev pub Refused : Entry → Type 0 → Result Unit Fault → Type 0
+Refused e Fails result = (Fails → ⊥) → Refusals e result
 
 abbrev pub AtMoment : List Object → Dataset → Outcome → Type 0
 AtMoment part d (refused f) = Agrees part d

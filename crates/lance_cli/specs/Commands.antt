@@ -1,6 +1,6 @@
 -- What the words ask for.
-use Rattle.std.specs.Prelude.{ℕ, ◌+◌, List, [], ◌∷◌, length, codes, Bool, true, false, cond, ◌&&◌, nat_eq, nat_lt, nat_le, bytes_eq, Option, Some, None, option_map, option_and_then}
-use Rattle.serde_json.specs.Data.{Data, null, boolean, number, string, array, object, Items, no_items, item, Members, no_members, member}
+use Rattle.std.specs.Prelude.{ℕ, List, [], ◌∷◌, length, codes, Bool, false, cond, ◌&&◌, nat_eq, nat_lt, nat_le, bytes_eq, Option, Some, None, option_map, option_and_then}
+use Rattle.serde_json.specs.Data.{Data, array, no_items, item}
 use Rattle.serde_json.specs.Find.{get, as_str, as_bool}
 use Rattle.serde_json.specs.Read.{read}
 use Rattle.lan_rows.specs.Members.{members_in}
@@ -32,6 +32,8 @@ in_words (command ∷ words) =
 -- what the program has read in the words
 abbrev pub asked_as : Parsed → Asked
 asked_as (parsed.Create json) = create json.now
+asked_as parsed.Append = append
+asked_as parsed.Scan = scan
 
 -- the text, or the flag, that an object has under a key
 abbrev pub text_at : List ℕ → Data → Option (List ℕ)

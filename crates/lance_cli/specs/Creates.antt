@@ -1,34 +1,15 @@
--- What creating a dataset answers, and leaves.
-use Rattle.std.specs.Prelude.{◌≡◌, ℕ, ◌⊎◌, ◌≤◌, ⊤, List, [], ◌∷◌, length, take, Option, Some, None, Result, Ok, Err, MatchOption, IsUtf8}
+-- What `create` answers, and leaves.
+use Rattle.std.specs.Prelude.{◌≡◌, ◌⊎◌, ⊤, ℕ, List, Option, Some, None, Result, Ok, Err, IsUtf8}
 use Rattle.std.specs.Option.{ForSome}
 use Rattle.lan_store.specs.declared.name.Object.{Object}
-use Rattle.lan_store.specs.Objects.{and_then}
 use Rattle.lan_store.specs.Streams.{and_then_bytes}
 use Rattle.lance_cli.specs.Commands.{column_name}
-use Rattle.lance_cli.specs.First.{first_object}
+use Rattle.lan_commit.specs.Creates.{IsCreated}
+use Rattle.lan_scan.specs.Sending.{GotPart}
 use Rattle.lance_cli.specs.Reports.{version_text}
 use Rattle.lan_manifest.specs.Versions.{IsNewest, NoneListed, manifest_name}
-use Rattle.lance_cli.specs.declared.commit.CommitFault.{CommitFault}
-use Rattle.lance_cli.specs.declared.commit.CommitFault.TheVariants as commit
 use Rattle.lance_cli.specs.declared.fault.Fault.{Fault}
 use Rattle.lance_cli.specs.declared.fault.Fault.TheVariants as fault
-
--- where no version is listed there is no newest
-abbrev pub IsNewestOf : List Object → Option ℕ → Type 0
-IsNewestOf all newest = MatchOption newest (NoneListed all) (IsNewest all)
-
--- none was listed, and the objects have exactly the new dataset's manifest more
-pub record IsCreated (column : List ℕ) (before now : Option (List Object)) : Type 0 where
-  pub none : ForSome before NoneListed
-  pub grew : now ≡ and_then before (first_object column ∷ [])
-
--- before and now are the store's objects, where it tells
-abbrev pub Creates : List ℕ → Option (List Object) → Option (List Object) → Result ℕ CommitFault → Type 0
-Creates column before now (Ok version) = (version ≡ 1) × IsCreated column before now
-Creates column before now (Err (commit.AlreadyThere version)) = ForSome before (λ all. IsNewest all version) × (now ≡ before)
-Creates column before now (Err (commit.Raced name)) = (name ≡ manifest_name 1) × ForSome before (λ _. ⊥) × (now ≡ before)
-Creates column before now (Err (commit.Store name)) = (now ≡ before) ⊎ IsCreated column before now
-Creates column before now (Err commit.Memory) = now ≡ before
 
 -- the command's text names a column that is taken
 abbrev pub Takes : List ℕ → Type 0
@@ -49,13 +30,13 @@ CreateDue json before (Err f) = ⊥
 abbrev pub HasCreated : List ℕ → Option (List Object) → Option (List Object) → Type 0
 HasCreated json before now = (column : List ℕ) × IsUtf8 column × (column_name json ≡ Some column) × IsCreated column before now
 
--- the sink got a front of the text
-abbrev pub GotPart : List ℕ → Option (List ℕ) → Option (List ℕ) → Type 0
-GotPart text held holds = (k : ℕ) × (k ≤ length text) × (holds ≡ and_then_bytes held (take k text))
-
 -- what stands in the store and in the sink after each answer of `create`
 abbrev pub CreateLeaves : List ℕ → Option (List Object) → Option (List Object) → Option (List ℕ) → Option (List ℕ) → Result Unit Fault → Type 0
 CreateLeaves json before now held holds (Ok _) = HasCreated json before now × (holds ≡ and_then_bytes held (version_text 1))
 CreateLeaves json before now held holds (Err (fault.StoreFault name)) = ((now ≡ before) ⊎ HasCreated json before now) × (holds ≡ held)
 CreateLeaves json before now held holds (Err fault.WriteFault) = HasCreated json before now × GotPart (version_text 1) held holds
 CreateLeaves json before now held holds (Err f) = (now ≡ before) × (holds ≡ held)
+
+pub record CreateServed (json : List ℕ) (before now : Option (List Object)) (held holds : Option (List ℕ)) (result : Result Unit Fault) : Type 0 where
+  pub due : CreateDue json before result
+  pub leaves : CreateLeaves json before now held holds result

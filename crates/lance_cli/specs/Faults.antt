@@ -4,12 +4,19 @@ use Rattle.json.specs.Print.{quoted}
 use Rattle.lan_store.specs.Paths.{path}
 use Rattle.lance_cli.specs.declared.fault.Fault.{Fault}
 use Rattle.lance_cli.specs.declared.fault.Fault.TheVariants as fault
-use Rattle.lance_cli.specs.declared.fault.ManifestFault.{ManifestFault}
-use Rattle.lance_cli.specs.declared.fault.ManifestFault.TheVariants as manifest
-use Rattle.lance_cli.specs.declared.fault.Reason.{Reason}
-use Rattle.lance_cli.specs.declared.fault.Reason.TheVariants as reason
-use Rattle.lance_cli.specs.declared.fault.Which.{Which}
-use Rattle.lance_cli.specs.declared.fault.Which.TheVariants as limit
+use Rattle.lan_file.specs.declared.fault.FileReason.{FileReason}
+use Rattle.lan_file.specs.declared.fault.FileReason.TheVariants as file
+use Rattle.lan_read.specs.declared.fault.ReadFault.{ReadFault}
+use Rattle.lan_read.specs.declared.fault.ReadFault.TheVariants as unread
+use Rattle.lan_commit.specs.declared.committing.CommitFault.{CommitFault}
+use Rattle.lan_commit.specs.declared.committing.CommitFault.TheVariants as unmade
+use Rattle.lan_scan.specs.declared.scanning.ScanFault.{ScanFault}
+use Rattle.lan_scan.specs.declared.scanning.ScanFault.TheVariants as unscanned
+use Rattle.lan_read.specs.declared.fault.ManifestReason.TheVariants as manifest
+use Rattle.lan_read.specs.declared.fault.Reason.{Reason}
+use Rattle.lan_read.specs.declared.fault.Reason.TheVariants as reason
+use Rattle.lan_commit.specs.declared.limits.Which.{Which}
+use Rattle.lan_commit.specs.declared.limits.Which.TheVariants as limit
 
 abbrev pub status_of : Fault → ℕ
 status_of fault.Usage = 2
@@ -44,12 +51,26 @@ which_text limit.FileNumber = codes "file number"
 which_text limit.DeletionId = codes "deletion id"
 which_text limit.ObjectBytes = codes "object bytes"
 
+-- the code of a reason of a data file
+abbrev pub file_code : FileReason → List ℕ
+file_code file.Missing = codes "missing"
+file_code file.Size = codes "size"
+file_code file.Short = codes "short"
+file_code file.TooShort = codes "file-short"
+file_code file.Magic = codes "file-magic"
+file_code (file.Version major minor) = codes "file-version " ++ (decimal major ++ (codes " " ++ decimal minor))
+file_code file.Region = codes "file-region"
+file_code file.Descriptor = codes "file-descriptor"
+file_code file.Plain = codes "file-plain"
+file_code (file.Rows stated asked) = codes "file-rows " ++ (decimal stated ++ (codes " " ++ decimal asked))
+
 -- the code of a reason
 abbrev pub reason_code : Reason → List ℕ
 reason_code reason.Missing = codes "missing"
 reason_code reason.Size = codes "size"
 reason_code reason.Short = codes "short"
 reason_code (reason.Manifest manifest.Plain) = codes "manifest-plain"
+reason_code (reason.File why) = file_code why
 
 -- the words that the program prints
 abbrev pub fault_text : Fault → List ℕ
@@ -73,3 +94,23 @@ fault_text fault.ReadFault = codes "input failed"
 fault_text fault.WriteFault = codes "output failed"
 fault_text fault.Memory = codes "out of memory"
 fault_text fault.NotBuilt = codes "not built"
+
+-- the faults of reading, of a change and of printing, as the program's own
+abbrev pub of_read : ReadFault → Fault
+of_read unread.NoDataset = fault.NoDataset
+of_read (unread.Outside name why place) = fault.Outside name why place
+of_read (unread.Store name) = fault.StoreFault name
+of_read unread.Memory = fault.Memory
+
+abbrev pub of_commit : CommitFault → Fault
+of_commit (unmade.AlreadyThere version) = fault.AlreadyThere version
+of_commit (unmade.Limit which number) = fault.Limit which number
+of_commit (unmade.Raced name) = fault.Raced name
+of_commit (unmade.Store name) = fault.StoreFault name
+of_commit unmade.Memory = fault.Memory
+
+abbrev pub of_scan : ScanFault → Fault
+of_scan (unscanned.Outside name why place) = fault.Outside name (reason.File why) place
+of_scan (unscanned.Store name) = fault.StoreFault name
+of_scan unscanned.Write = fault.WriteFault
+of_scan unscanned.Memory = fault.Memory

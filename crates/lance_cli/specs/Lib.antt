@@ -1,14 +1,13 @@
+pub mod Appends
 pub mod Causes
+pub mod Changes
 pub mod Clauses
 pub mod Commands
-pub mod Commits
 pub mod Creates
 pub mod Faults
-pub mod First
-pub mod Limits
 pub mod Puts
 pub mod Replies
 pub mod Reports
+pub mod ScansNewest
 pub mod Served
 pub mod Stage
-pub mod Standing

@@ -1,11 +1,11 @@
 -- Commands as they are told, and what is replied to them: a fold over tables alone.
-use Rattle.std.specs.Prelude.{◌≡◌, ℕ, List, [], ◌∷◌, ◌++◌, flat_map, cond, false, codes, Option, Some, None, unwrap_or, option_map, option_and_then, Result, Ok, Err}
-use Rattle.lan_model.specs.declared.tree.Primitive.TheVariants as p
-use Rattle.lan_model.specs.Plain.{PlainValue, field, primitive}
-use Rattle.lan_model.specs.Table.{Column, Table}
+use Rattle.std.specs.Prelude.{◌≡◌, ℕ, List, [], ◌∷◌, ◌++◌, flat_map, cond, codes, Option, Some, None, unwrap_or, option_map, option_and_then, Result, Ok, Err}
+use Rattle.lan_model.specs.Plain.{PlainValue}
+use Rattle.lan_model.specs.Table.{Table}
 use Rattle.lan_model.specs.Dataset.{Dataset, newest, table_at}
 use Rattle.lan_model.specs.After as change
 use Rattle.lan_model.specs.After.{after, Command, Refusal}
+use Rattle.lan_commit.specs.First.{int64_column}
 use Rattle.lance_cli.specs.Commands.{Asked, create, append, scan, in_words, column_name}
 use Rattle.lance_cli.specs.Faults.{fault_text}
 use Rattle.lance_cli.specs.Reports.{version_text}
@@ -14,7 +14,7 @@ use Rattle.lan_rows.specs.Rows.{line_of}
 use Rattle.lance_cli.specs.Stage.{is_taken}
 use Rattle.lance_cli.specs.declared.fault.Fault.{Fault}
 use Rattle.lance_cli.specs.declared.fault.Fault.TheVariants as fault
-use Rattle.lance_cli.specs.declared.fault.Which.{Which}
+use Rattle.lan_commit.specs.declared.limits.Which.{Which}
 
 -- what the objects show at a command
 pub record Shown : Type 0 where
@@ -54,10 +54,6 @@ changed_to shown (Err refusal) = refused (fault_of refusal)
 
 abbrev pub change_reply : Dataset → Shown → Command → Option Outcome
 change_reply d shown command = option_map (changed_to shown) (after d command)
-
--- a column of int64 that is never null
-abbrev pub int64_column : List ℕ → Column
-int64_column name = field tt name false (primitive p.Int64)
 
 abbrev pub create_reply : Dataset → Shown → Option (List ℕ) → Option Outcome
 create_reply d shown None = Some (refused fault.NotBuilt)

@@ -1,6 +1,6 @@
 // What the words ask for.
 ghost use Rattle.std.specs.Prelude.{◌≡◌, option_map};
-ghost use Rattle.lance_cli.specs.Commands.{one_word, asked_as};
+ghost use Rattle.lance_cli.specs.Commands.{one_word, no_word, asked_as};
 ghost use Rattle.lance_cli.specs.Replies.{asked_of};
 
 use lan_model::{Text, Words};
@@ -10,6 +10,10 @@ use lan_model::{Text, Words};
 pub enum Asked<'a> {
     /// A new dataset, of the schema that the text gives.
     Create(&'a str),
+    /// The input's rows behind those of the newest version.
+    Append,
+    /// The rows of the newest version.
+    Scan,
 }
 
 /// The command that the words ask for, where they obey the rule of words.
@@ -17,10 +21,12 @@ pub fn asked_of(words: &Words) -> Option<Asked<'_>>
     ensures { option_map asked_as result ≡ asked_of words.now }
 {
     let (command, own) = words.as_slice().split_first()?;
-    if command.as_str() == "create" {
-        return one_word(own).map(Asked::Create);
+    match command.as_str() {
+        "create" => one_word(own).map(Asked::Create),
+        "append" => no_word(Asked::Append, own),
+        "scan" => no_word(Asked::Scan, own),
+        _ => None,
     }
-    None
 }
 
 fn one_word(words: &[Text]) -> Option<&str>
@@ -30,4 +36,10 @@ fn one_word(words: &[Text]) -> Option<&str>
         [word] => Some(word.as_str()),
         _ => None,
     }
+}
+
+fn no_word<'a>(asked: Asked<'a>, words: &[Text]) -> Option<Asked<'a>>
+    ensures { option_map asked_as result ≡ no_word (asked_as asked.entry) words.now }
+{
+    if words.is_empty() { Some(asked) } else { None }
 }

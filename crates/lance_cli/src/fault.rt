@@ -1,44 +1,15 @@
 // Why a command is refused, and the status that the program then ends with.
 ghost use Rattle.std.specs.Prelude.{◌≡◌};
-ghost use Rattle.lance_cli.specs.Faults.{status_of};
+ghost use Rattle.lance_cli.specs.Faults.{status_of, of_read, of_commit, of_scan};
 ghost use Rattle.lance_cli.specs.declared.fault.Fault.TheVariants.{Memory};
 
+use lan_commit::{CommitFault, Which};
 use lan_model::Text;
+use lan_read::{ReadFault, Reason};
+use lan_scan::ScanFault;
 use lan_store::Name;
 use std::alloc::AllocError;
 use thiserror::Error;
-
-/// A limit that a change reaches.
-#[derive(Clone, Copy, Debug)]
-pub enum Which {
-    Leaves,
-    FieldId,
-    Fragments,
-    FragmentId,
-    Version,
-    FileNumber,
-    DeletionId,
-    ObjectBytes,
-}
-
-/// Why an object is no manifest that is read.
-#[derive(Clone, Copy, Debug)]
-pub enum ManifestFault {
-    /// It isn't in the writer's own spelling.
-    Plain,
-}
-
-/// Why a stored object is outside of what is read.
-#[derive(Clone, Copy, Debug)]
-pub enum Reason {
-    /// No object of the name is held.
-    Missing,
-    /// It has over 2^30 bytes.
-    Size,
-    /// A part that it has to have passes its end.
-    Short,
-    Manifest(ManifestFault),
-}
 
 /// Why a command is refused.
 ///
@@ -106,6 +77,48 @@ impl From<AllocError> for Fault {
 
     fn from(_: AllocError) -> Self {
         Fault::Memory
+    }
+}
+
+impl From<ReadFault> for Fault {
+    ghost from_gives = { λ fault e. e ≡ of_read fault };
+
+    fn from(fault: ReadFault) -> Self {
+        match fault {
+            ReadFault::NoDataset => Fault::NoDataset,
+            ReadFault::Outside(name, reason, place) => Fault::Outside(name, reason, place),
+            ReadFault::Store(name) => Fault::StoreFault(name),
+            ReadFault::Memory => Fault::Memory,
+        }
+    }
+}
+
+impl From<CommitFault> for Fault {
+    ghost from_gives = { λ fault e. e ≡ of_commit fault };
+
+    fn from(fault: CommitFault) -> Self {
+        match fault {
+            CommitFault::AlreadyThere(version) => Fault::AlreadyThere(version),
+            CommitFault::Limit(which, number) => Fault::Limit(which, number),
+            CommitFault::Raced(name) => Fault::Raced(name),
+            CommitFault::Store(name) => Fault::StoreFault(name),
+            CommitFault::Memory => Fault::Memory,
+        }
+    }
+}
+
+impl From<ScanFault> for Fault {
+    ghost from_gives = { λ fault e. e ≡ of_scan fault };
+
+    fn from(fault: ScanFault) -> Self {
+        match fault {
+            ScanFault::Outside(name, reason, place) => {
+                Fault::Outside(name, Reason::File(reason), place)
+            }
+            ScanFault::Store(name) => Fault::StoreFault(name),
+            ScanFault::Write => Fault::WriteFault,
+            ScanFault::Memory => Fault::Memory,
+        }
     }
 }
 

@@ -1,10 +1,13 @@
 // The words of each fault.
 ghost use Rattle.std.specs.Prelude.{◌≡◌, ◌++◌, IfOk, codes, decimal, string_bytes};
 ghost use Rattle.json.specs.Print.{quoted};
-ghost use Rattle.lance_cli.specs.Faults.{which_text, reason_code, fault_text};
+ghost use Rattle.lance_cli.specs.Faults.{which_text, file_code, reason_code, fault_text};
 
-use crate::fault::{Fault, ManifestFault, Reason, Which};
+use crate::fault::Fault;
+use lan_commit::Which;
+use lan_file::FileReason;
 use lan_model::Text;
+use lan_read::{ManifestReason, Reason};
 use serde_json::Value;
 use std::alloc::{AllocError, Global};
 
@@ -42,7 +45,7 @@ fn words_of(alloc: Global, fault: &Fault) -> Result<String, AllocError>
         }
         Fault::Outside(name, reason, place) => {
             let path = name.path(alloc)?;
-            let code = reason_code(*reason);
+            let code = reason_code(alloc, *reason)?;
             format!(in alloc; "outside: {path}: {code} at {place}")
         }
         Fault::Raced(name) => {
@@ -102,13 +105,31 @@ fn which_text(which: Which) -> &'static str
     }
 }
 
-fn reason_code(reason: Reason) -> &'static str
-    ensures { result.now ≡ reason_code reason }
+fn reason_code(alloc: Global, reason: Reason) -> Result<String, AllocError>
+    ensures { IfOk result (λ code. string_bytes code ≡ reason_code reason) }
 {
     match reason {
-        Reason::Missing => "missing",
-        Reason::Size => "size",
-        Reason::Short => "short",
-        Reason::Manifest(ManifestFault::Plain) => "manifest-plain",
+        Reason::Missing => String::from_str(alloc, "missing"),
+        Reason::Size => String::from_str(alloc, "size"),
+        Reason::Short => String::from_str(alloc, "short"),
+        Reason::Manifest(ManifestReason::Plain) => String::from_str(alloc, "manifest-plain"),
+        Reason::File(reason) => file_code(alloc, reason),
+    }
+}
+
+fn file_code(alloc: Global, reason: FileReason) -> Result<String, AllocError>
+    ensures { IfOk result (λ code. string_bytes code ≡ file_code reason) }
+{
+    match reason {
+        FileReason::Missing => String::from_str(alloc, "missing"),
+        FileReason::Size => String::from_str(alloc, "size"),
+        FileReason::Short => String::from_str(alloc, "short"),
+        FileReason::TooShort => String::from_str(alloc, "file-short"),
+        FileReason::Magic => String::from_str(alloc, "file-magic"),
+        FileReason::Version(major, minor) => format!(in alloc; "file-version {major} {minor}"),
+        FileReason::Region => String::from_str(alloc, "file-region"),
+        FileReason::Descriptor => String::from_str(alloc, "file-descriptor"),
+        FileReason::Plain => String::from_str(alloc, "file-plain"),
+        FileReason::Rows(stated, asked) => format!(in alloc; "file-rows {stated} {asked}"),
     }
 }

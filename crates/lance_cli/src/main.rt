@@ -1,12 +1,14 @@
 //! A versioned columnar dataset in a folder.
 #![tactic(auto)]
 
+mod append;
 mod command;
-mod commit;
 mod fault;
 mod fault_text;
 mod folder;
+mod reply;
 mod run;
+mod scan;
 mod schema;
 mod stdio;
 #[cfg(test)]
@@ -28,9 +30,13 @@ usage: lance_cli FOLDER COMMAND [WORDS]
 
 commands
   create JSON   make a dataset of the fields that the JSON names, as version 1
+  append        add the rows of standard input, one JSON object a line, as the next version
+  scan          print the rows of the newest version, one JSON object a line
 
 examples
   lance_cli people create '[{\"name\":\"x\",\"nullable\":false,\"type\":\"int64\"}]'
+  echo '{\"x\":7}' | lance_cli people append
+  lance_cli people scan
 
 The status is 0, or says why a command was refused; the words are on standard error.
 ";

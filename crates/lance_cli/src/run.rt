@@ -1,22 +1,25 @@
 // The top call: what a command does, and what that means.
-ghost use Rattle.std.specs.Prelude.{◌≡◌, ℕ, Some, IsErrOf, IfOk, string_bytes};
+ghost use Rattle.std.specs.Prelude.{◌≡◌, ℕ, Some, IsErrOf};
 ghost use Rattle.std.specs.Option.{ForSome};
 ghost use Rattle.lan_store.specs.declared.name.Name.{Name};
 ghost use Rattle.lan_store.specs.Causes.{HasCause};
 ghost use Rattle.lance_cli.specs.Causes.{Cause};
-ghost use Rattle.lance_cli.specs.Clauses.{Kept, Done, Decided, Moments, Fails, Leaves, Prints, TakenBy};
+ghost use Rattle.lance_cli.specs.Clauses.{Kept, Done, Decided, Refused, Moments, Fails, Leaves, Prints, TakenBy};
 ghost use Rattle.lance_cli.specs.Commands.{create as asks_create};
 ghost use Rattle.lance_cli.specs.Replies.{asked_of};
-ghost use Rattle.lance_cli.specs.Reports.{version_text};
-ghost use Rattle.lance_cli.specs.Served.{Served, CreateServed};
+ghost use Rattle.lance_cli.specs.Creates.{CreateServed};
+ghost use Rattle.lance_cli.specs.Served.{Served};
 
+use crate::append::serve_append;
 use crate::command::{Asked, asked_of};
-use crate::commit::{CommitFault, create};
 use crate::fault::Fault;
+use crate::reply::{print_reply, version_line};
+use crate::scan::serve_scan;
 use crate::schema::column_of;
+use lan_commit::{CommitFault, create};
 use lan_model::{Text, Words};
-use lan_store::{Sink, Source, Store, write_all};
-use std::alloc::{AllocError, Global};
+use lan_store::{Sink, Source, Store};
+use std::alloc::Global;
 
 /// Does what the words ask of the dataset in the store, reads what they need from the input, and
 /// writes what it prints to `out`.
@@ -41,6 +44,9 @@ pub fn run<S: Store, I: Source, O: Sink>(
     ensures done { Done (record { words = words.now; objects = S.objects store.old; input = I.left input.old }) (S.objects store.new) (O.held out.old) (O.held out.new) result }
     ensures decided { Decided (record { words = words.now; objects = S.objects store.old; input = I.left input.old }) (Fails (S.faults store.old) (S.faults store.new) (I.faults input.old) (I.faults input.new) (O.faults out.old) (O.faults out.new)) result }
 
+    // Where no count rose, refusals of the input and of limits come also where the data doesn't stand.
+    ensures refused { Refused (record { words = words.now; objects = S.objects store.old; input = I.left input.old }) (Fails (S.faults store.old) (S.faults store.new) (I.faults input.old) (I.faults input.new) (O.faults out.old) (O.faults out.new)) result }
+
     // At whatever moment it stops, the objects stand for the dataset before or after the command.
     ensures moments { Moments (record { words = words.now; objects = S.objects store.old; input = I.left input.old }) (S.objects store.new) }
 
@@ -54,25 +60,28 @@ pub fn run<S: Store, I: Source, O: Sink>(
     ensures read_cause { HasCause (IsErrOf result Fault.ReadFault) (I.faults input.old) (I.faults input.new) }
     ensures write_cause { HasCause (IsErrOf result Fault.WriteFault) (O.faults out.old) (O.faults out.new) }
 {
-    let _ = input;
-    serve(alloc, words, store, out)
+    serve(alloc, words, store, input, out)
 }
 
 // What a command reads, puts and answers; `run` says what that means.
-fn serve<S: Store, O: Sink>(
+fn serve<S: Store, I: Source, O: Sink>(
     alloc: Global,
     words: &Words,
     store: &mut S,
+    input: &mut I,
     out: &mut O,
 ) -> Result<(), Fault>
-    ensures served { Served (asked_of words.now) (record { before = S.objects store.old; now = S.objects store.new; held = O.held out.old; holds = O.held out.new }) result }
+    ensures served { Served (asked_of words.now) (record { before = S.objects store.old; now = S.objects store.new; given = I.left input.old; left = I.left input.new; held = O.held out.old; holds = O.held out.new }) result }
     ensures store_cause { HasCause ((name : Name) × IsErrOf result (Fault.StoreFault name)) (S.faults store.old) (S.faults store.new) }
     ensures store_name { (name : Name) → IsErrOf result (Fault.StoreFault name) → ForSome (S.objects store.old) (λ _. S.failed store.new ≡ Some name) }
     ensures raced_cause { HasCause ((name : Name) × IsErrOf result (Fault.Raced name)) (S.clashes store.old) (S.clashes store.new) }
+    ensures read_cause { HasCause (IsErrOf result Fault.ReadFault) (I.faults input.old) (I.faults input.new) }
     ensures write_cause { HasCause (IsErrOf result Fault.WriteFault) (O.faults out.old) (O.faults out.new) }
 {
     match asked_of(words) {
         Some(Asked::Create(json)) => serve_create(alloc, json, store, out),
+        Some(Asked::Append) => serve_append(alloc, store, input, out),
+        Some(Asked::Scan) => serve_scan(alloc, store, out),
         None => Err(Fault::Usage),
     }
 }
@@ -83,7 +92,7 @@ fn serve_create<S: Store, O: Sink>(
     store: &mut S,
     out: &mut O,
 ) -> Result<(), Fault>
-    ensures served { CreateServed json.now (record { before = S.objects store.old; now = S.objects store.new; held = O.held out.old; holds = O.held out.new }) result }
+    ensures served { CreateServed json.now (S.objects store.old) (S.objects store.new) (O.held out.old) (O.held out.new) result }
     ensures store_cause { HasCause ((name : Name) × IsErrOf result (Fault.StoreFault name)) (S.faults store.old) (S.faults store.new) }
     ensures store_name { (name : Name) → IsErrOf result (Fault.StoreFault name) → ForSome (S.objects store.old) (λ _. S.failed store.new ≡ Some name) }
     ensures raced_cause { HasCause ((name : Name) × IsErrOf result (Fault.Raced name)) (S.clashes store.old) (S.clashes store.new) }
@@ -97,19 +106,10 @@ fn serve_create<S: Store, O: Sink>(
     match create(alloc, store, column.as_str()) {
         Ok(_) => {}
         Err(CommitFault::AlreadyThere(version)) => return Err(Fault::AlreadyThere(version)),
+        Err(CommitFault::Limit(which, number)) => return Err(Fault::Limit(which, number)),
         Err(CommitFault::Raced(name)) => return Err(Fault::Raced(name)),
         Err(CommitFault::Store(name)) => return Err(Fault::StoreFault(name)),
         Err(CommitFault::Memory) => return Err(Fault::Memory),
     }
-    match write_all(out, reply.as_bytes()) {
-        Ok(()) => Ok(()),
-        Err(_) => Err(Fault::WriteFault),
-    }
-}
-
-// The line that names a version.
-fn version_line(alloc: Global, version: u64) -> Result<String, AllocError>
-    ensures { IfOk result (λ text. string_bytes text ≡ version_text version) }
-{
-    format!(in alloc; "version {version}\n")
+    print_reply(out, reply.as_bytes())
 }

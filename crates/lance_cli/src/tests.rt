@@ -19,21 +19,62 @@ const MANIFEST: [u8; 47] = [
     0, 0, 0, 0, 0, 0, 2, 0, 0x4c, 0x41, 0x4e, 0x43,
 ];
 
-// The status of a `create`, and the words of its refusal.
-fn create<S: Store>(
+const FILE: [u8; 194] = [
+    7, 0, 0, 0, 0, 0, 0, 0, 0, 0, 0, 0, 0, 0, 0, 0, 0, 0, 0, 0, 0, 0, 0, 0, 0, 0, 0, 0, 0, 0, 0, 0,
+    0, 0, 0, 0, 0, 0, 0, 0, 0, 0, 0, 0, 0, 0, 0, 0, 0, 0, 0, 0, 0, 0, 0, 0, 0, 0, 0, 0, 0, 0, 0, 0,
+    0x0a, 0x19, 0x0a, 0x17, 0x08, 0x02, 0x12, 0x01, 0x78, 0x20, 0xff, 0xff, 0xff, 0xff, 0xff, 0xff,
+    0xff, 0xff, 0xff, 0x01, 0x2a, 0x05, 0x69, 0x6e, 0x74, 0x36, 0x34, 0x10, 0x01, 0x12, 0x1b, 0x0a,
+    0x01, 0x00, 0x12, 0x01, 0x08, 0x18, 0x01, 0x22, 0x11, 0x12, 0x0f, 0x0a, 0x0d, 0x1a, 0x0b, 0x0a,
+    0x01, 0x01, 0x10, 0x01, 0x1a, 0x04, 0x0a, 0x02, 0x08, 0x40, 0x5d, 0, 0, 0, 0, 0, 0, 0, 0x1d, 0,
+    0, 0, 0, 0, 0, 0, 0x40, 0, 0, 0, 0, 0, 0, 0, 0x1d, 0, 0, 0, 0, 0, 0, 0, 0x5d, 0, 0, 0, 0, 0, 0,
+    0, 0x7a, 0, 0, 0, 0, 0, 0, 0, 0x8a, 0, 0, 0, 0, 0, 0, 0, 1, 0, 0, 0, 1, 0, 0, 0, 2, 0, 1, 0,
+    0x4c, 0x41, 0x4e, 0x43,
+];
+
+fn words_of(alloc: Global, command: &str) -> Result<Words, AllocError> {
+    let mut words = Words::new(alloc);
+    words.push_word(command)?;
+    if command == "create" {
+        words.push_word(SCHEMA)?;
+    }
+    Ok(words)
+}
+
+// The status of a command, and the words of its refusal.
+fn ask<S: Store>(
     alloc: Global,
-    schema: &str,
+    command: &str,
+    input: &mut MemSource,
     store: &mut S,
     out: &mut MemSink,
 ) -> Result<(u8, Text), AllocError> {
-    let mut words = Words::new(alloc);
-    words.push_word("create")?;
-    words.push_word(schema)?;
-    let mut input = MemSource::new(Blob::new(alloc), 1, Nums::new(alloc));
-    match run(alloc, &words, store, &mut input, out) {
+    let words = words_of(alloc, command)?;
+    match run(alloc, &words, store, input, out) {
         Ok(()) => Ok((0, Text::new(alloc))),
         Err(fault) => Ok((exit_of(&fault), fault_text(alloc, &fault)?)),
     }
+}
+
+fn source(alloc: Global, input: &str, fails: Nums) -> Result<MemSource, AllocError> {
+    let bytes = Blob::from_slice(alloc, input.as_bytes())?;
+    Ok(MemSource::new(bytes, 5, fails))
+}
+
+// The status of a command, and what it prints, or the words of its refusal.
+fn told<S: Store>(
+    alloc: Global,
+    command: &str,
+    input: &str,
+    store: &mut S,
+) -> Result<(u8, Text), AllocError> {
+    let mut input = source(alloc, input, Nums::new(alloc))?;
+    let mut out = MemSink::new(alloc, 3, Nums::new(alloc));
+    let (status, words) = ask(alloc, command, &mut input, store, &mut out)?;
+    if status != 0 {
+        return Ok((status, words));
+    }
+    let text = String::from_utf8_lossy(alloc, out.bytes())?;
+    Ok((status, Text::of(alloc, &text)?))
 }
 
 fn calls(alloc: Global, call: u64) -> Result<Nums, AllocError> {
@@ -49,39 +90,60 @@ fn planned(alloc: Global, call: u64, after: bool) -> Result<MemStore, AllocError
 }
 
 #[test]
-fn creates_once(rt: HostRuntime) -> Result<(), Fail> {
+fn commands_one_after_another(rt: HostRuntime) -> Result<(), Fail> {
     let alloc = rt.alloc();
     let mut store = CalmStore::new(alloc);
-    let mut out = MemSink::new(alloc, 3, Nums::new(alloc));
-    let (status, _) = create(alloc, SCHEMA, &mut store, &mut out)?;
-    assert_eq!(rt; status, 0);
-    assert_eq!(rt; out.bytes(), b"version 1\n".as_slice());
-    assert_eq!(rt; store.count(), 1);
-    assert_eq!(rt; store.name(0).rest.as_str(), "1.manifest");
+    for (command, input, status, text) in [
+        ("scan", "", 5, "no dataset"),
+        ("append", "{\"x\":1}", 5, "no dataset"),
+        ("create", "", 0, "version 1\n"),
+        ("create", "", 6, "dataset is there at version 1"),
+        ("scan", "", 0, ""),
+        ("append", "{\"x\":7}\n", 0, "version 2\n"),
+        ("append", "{\"x\":1}\n{\"x\":\"a\"}\n", 3, "line 2: bad row"),
+        ("append", "", 0, "version 3\n"),
+        ("append", "{\"x\":-1}\n{\"x\":8}", 0, "version 4\n"),
+        ("scan", "", 0, "{\"x\":7}\n{\"x\":-1}\n{\"x\":8}\n"),
+    ] {
+        let (got, words) = told(alloc, command, input, &mut store)?;
+        assert_eq!(rt; got, status, "{command}");
+        assert_eq!(rt; words.as_str(), text, "{command}");
+    }
+    assert_eq!(rt; store.count(), 6);
     assert_eq!(rt; store.bytes(0), MANIFEST.as_slice());
-    let (status, words) = create(alloc, SCHEMA, &mut store, &mut out)?;
-    assert_eq!(rt; status, 6);
-    assert_eq!(rt; words.as_str(), "dataset is there at version 1");
+    assert_eq!(rt; store.name(1).rest.as_str(), "00000000000000000001.lance");
+    assert_eq!(rt; store.bytes(1), FILE.as_slice());
     Ok(())
 }
 
-// Whether a store that fails at one call answers as it should: with its own status and the name,
-// and with the manifest only where the put failed behind its effect.
+// Whether a store that fails at one call, of a `create` or of the `append` behind it, answers as it
+// should: with its own status, and with the objects of the puts that were done.
 fn fails_rightly(alloc: Global, call: u64, after: bool) -> Result<bool, AllocError> {
     let mut store = planned(alloc, call, after)?;
-    let mut out = MemSink::new(alloc, 100, Nums::new(alloc));
-    let (status, words) = create(alloc, SCHEMA, &mut store, &mut out)?;
-    let held = store.count();
-    Ok(match words.as_str() {
-        "store failed: _versions/" => status == 17 && held == 0,
-        "store failed: _versions/1.manifest" => status == 17 && held == u64::from(after),
-        _ => call > 2 && status == 0 && held == 1,
+    let (create, _) = told(alloc, "create", "", &mut store)?;
+    let (append, words) = told(alloc, "append", "{\"x\":7}", &mut store)?;
+    let (_, rows) = told(alloc, "scan", "", &mut store)?;
+    let printed = rows.as_str() == "{\"x\":7}\n";
+    Ok(match (call, words.as_str()) {
+        (1, "no dataset") => create == 17,
+        (2, "no dataset") => create == 17 && !after,
+        (2, "version 2\n") => create == 17 && after && printed,
+        (3, "store failed: _versions/") => append == 17,
+        (4 | 5, "store failed: _versions/1.manifest") => append == 17 && store.count() == 1,
+        (6, "store failed: data/") => append == 17 && store.count() == 1,
+        (7, "store failed: data/00000000000000000001.lance") => {
+            store.count() == 1 + u64::from(after) && rows.as_str() == ""
+        }
+        (8, "store failed: _versions/2.manifest") => {
+            store.count() == 2 + u64::from(after) && printed == after
+        }
+        _ => call > 8 && append == 0,
     })
 }
 
 #[test]
 fn each_call_of_the_store_fails_in_turn(rt: HostRuntime) -> Result<(), Fail> {
-    for call in 1..=4 {
+    for call in 1..=9 {
         assert!(rt;
             fails_rightly(rt.alloc(), call, false)?,
             "before call {call}"
@@ -94,17 +156,36 @@ fn each_call_of_the_store_fails_in_turn(rt: HostRuntime) -> Result<(), Fail> {
 #[test]
 fn others_may_be_in_the_way(rt: HostRuntime) -> Result<(), Fail> {
     let alloc = rt.alloc();
-    let mut out = MemSink::new(alloc, 4, calls(alloc, 2)?);
     let mut blind = BlindStore::new(planned(alloc, 0, false)?, calls(alloc, 1)?);
-    let (status, words) = create(alloc, SCHEMA, &mut blind, &mut out)?;
+    let (status, words) = told(alloc, "create", "", &mut blind)?;
     assert_eq!(rt; status, 16);
     assert_eq!(rt; words.as_str(), "raced: _versions/1.manifest");
+    Ok(())
+}
+
+// The status of a scan of two rows to a sink that fails at its second write, and what the sink has.
+fn cut_off(alloc: Global, store: &mut CalmStore) -> Result<(u8, MemSink), AllocError> {
+    told(alloc, "create", "", store)?;
+    told(alloc, "append", "{\"x\":1}\n{\"x\":2}\n", store)?;
+    let mut out = MemSink::new(alloc, 8, calls(alloc, 2)?);
+    let mut none = source(alloc, "", Nums::new(alloc))?;
+    let (status, _) = ask(alloc, "scan", &mut none, store, &mut out)?;
+    Ok((status, out))
+}
+
+#[test]
+fn streams_fail(rt: HostRuntime) -> Result<(), Fail> {
+    let alloc = rt.alloc();
     let mut store = CalmStore::new(alloc);
-    let (status, words) = create(alloc, SCHEMA, &mut store, &mut out)?;
+    let (status, out) = cut_off(alloc, &mut store)?;
     assert_eq!(rt; status, 19);
-    assert_eq!(rt; words.as_str(), "output failed");
-    assert_eq!(rt; out.bytes(), b"vers".as_slice());
-    assert_eq!(rt; store.count(), 1);
+    assert_eq!(rt; out.bytes(), b"{\"x\":1}\n".as_slice());
+    let mut input = source(alloc, "{\"x\":3}\n", calls(alloc, 2)?)?;
+    let mut out = MemSink::new(alloc, 3, Nums::new(alloc));
+    let (status, words) = ask(alloc, "append", &mut input, &mut store, &mut out)?;
+    assert_eq!(rt; status, 18);
+    assert_eq!(rt; words.as_str(), "input failed");
+    assert_eq!(rt; store.count(), 3);
     Ok(())
 }
 

@@ -1,4 +1,4 @@
-use Rattle.std.proofs.Common.{sym, ◌∙◌, arith}
+use Rattle.std.proofs.Common.{sym, arith}
 use Rattle.serde_json.specs.View.{view}
 use Rattle.lance_cli.proofs.SchemaViews.{none_only}
 use Rattle.lance_cli.proofs.schema.only_item.Goals as goal

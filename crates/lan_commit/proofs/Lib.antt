@@ -1,0 +1,11 @@
+pub mod AppendAgrees
+pub mod Appended
+pub mod Columns
+pub mod Created
+pub mod FirstTable
+pub mod Lengths
+pub mod NeverHeld
+pub mod NextManifest
+pub mod NextVersion
+pub mod NoLimit
+pub mod Unseen

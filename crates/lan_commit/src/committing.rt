@@ -1,0 +1,60 @@
+// The puts of a change.
+ghost use Rattle.std.specs.Prelude.{◌≡◌, ◌<◌, ℕ, length, slice_get, option_map, Some, IsErrOf};
+ghost use Rattle.std.specs.Option.{ForSome};
+ghost use Rattle.lan_store.specs.declared.name.Name.{Name};
+ghost use Rattle.lan_store.specs.Causes.{HasCause};
+ghost use Rattle.lan_commit.specs.Commits.{Commits};
+ghost use Rattle.lan_commit.specs.declared.committing.CommitFault.TheVariants.{Memory};
+
+use crate::limits::Which;
+use lan_store::{Name, Object, PutAllFault, Store, put_all};
+use std::alloc::{AllocError, Global};
+
+/// Why a change isn't made.
+#[derive(Debug, Drop)]
+pub enum CommitFault {
+    /// A version is listed; this is the newest.
+    AlreadyThere(u64),
+    /// A limit, and the number at which it lies.
+    Limit(Which, u64),
+    /// An object of this name was held, though it wasn't listed.
+    Raced(Name),
+    /// The store failed at this name.
+    Store(Name),
+    Memory,
+}
+
+impl From<AllocError> for CommitFault {
+    ghost from_gives = { λ _ e. e ≡ Memory };
+
+    fn from(_: AllocError) -> Self {
+        CommitFault::Memory
+    }
+}
+
+/// Puts the objects of a change in their order, its manifest last.
+pub fn commit<S: Store>(
+    alloc: Global,
+    store: &mut S,
+    objects: Vec<Object>,
+) -> Result<(), CommitFault>
+    ensures commits { Commits objects.items (S.objects store.old) (S.objects store.new) result }
+    ensures faults { HasCause ((name : Name) × IsErrOf result (CommitFault.Store name)) (S.faults store.old) (S.faults store.new) }
+    ensures told { (name : Name) → IsErrOf result (CommitFault.Store name) → ForSome (S.objects store.old) (λ _. S.failed store.new ≡ Some name) }
+    ensures clashes { HasCause ((name : Name) × IsErrOf result (CommitFault.Raced name)) (S.clashes store.old) (S.clashes store.new) }
+{
+    match put_all(alloc, store, objects.as_slice()) {
+        Ok(()) => Ok(()),
+        Err(PutAllFault::Exists(place)) => Err(CommitFault::Raced(name_at(objects, place))),
+        Err(PutAllFault::Failed(place)) => Err(CommitFault::Store(name_at(objects, place))),
+        Err(PutAllFault::Memory) => Err(CommitFault::Memory),
+    }
+}
+
+fn name_at(mut objects: Vec<Object>, place: usize) -> Name
+    requires { place < length objects.items }
+    ensures { option_map (λ o. o.name) (slice_get objects.items place) ≡ Some result }
+{
+    let Object { name, bytes: _ } = objects.remove(place);
+    name
+}

@@ -1,0 +1,5 @@
+pub mod FragmentRead
+pub mod Monotone
+pub mod Newest
+pub mod NewestOpened
+pub mod OneTable

@@ -1,0 +1,5 @@
+use Rattle.lan_read.proofs.Monotone.{stands_more}
+use Rattle.lan_read.proofs.laws.tables_stay.Goals as goal
+
+pub returns : goal.returns
+returns c = stands_more

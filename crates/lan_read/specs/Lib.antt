@@ -1,0 +1,5 @@
+pub mod Fragments
+pub mod Newest
+pub mod Opens
+pub mod Reasons
+pub mod Standing

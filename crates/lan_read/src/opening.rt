@@ -1,0 +1,89 @@
+// The newest version, and its manifest.
+ghost use Rattle.std.specs.Prelude.{◌≡◌, ◌≤◌, ℕ, [], Some, IsErrOf, IfOk, IfSome};
+ghost use Rattle.std.specs.Option.{ForSome};
+ghost use Rattle.lan_store.specs.declared.name.Name.{Name};
+ghost use Rattle.lan_store.specs.Causes.{HasCause};
+ghost use Rattle.lan_store.specs.Objects.{TellsFailed};
+ghost use Rattle.lan_manifest.specs.Manifests.{plain_manifest};
+ghost use Rattle.lan_manifest.specs.Versions.{IsVersion};
+ghost use Rattle.lan_read.specs.Newest.{IsNewestOf, IsOpened};
+ghost use Rattle.lan_read.specs.Opens.{OpensNewest, OpensVersion, ManifestIn};
+
+use crate::fault::{ManifestReason, ReadFault, Reason};
+use crate::object::{ObjectFault, read_object};
+use lan_bytes::View;
+use lan_manifest::{Manifest, ManifestFault, list_versions, name_of_version, read_manifest};
+use lan_model::{Blob, Text};
+use lan_store::{Dir, ListFault, Name, Store};
+use std::alloc::Global;
+
+/// The newest listed version.
+pub fn newest_version<S: Store>(alloc: Global, store: &mut S) -> Result<Option<u64>, ListFault>
+    ensures kept { S.objects store.new ≡ S.objects store.old }
+    ensures newest { ForSome (S.objects store.old) (λ all. IfOk result (IsNewestOf all)) }
+    ensures version { IfOk result (λ newest. IfSome newest IsVersion) }
+    ensures cause { HasCause (IsErrOf result ListFault.Failed) (S.faults store.old) (S.faults store.new) }
+    ensures told { TellsFailed (S.objects store.old) (IsErrOf result ListFault.Failed) (record { dir = Dir.Versions; rest = [] }) (S.failed store.old) (S.failed store.new) }
+    ensures clashes { S.clashes store.old ≤ S.clashes store.new }
+{
+    let versions = list_versions(alloc, store)?;
+    Ok(versions.as_slice().last().copied())
+}
+
+/// The manifest of the newest version.
+pub fn open_newest<S: Store>(alloc: Global, store: &mut S) -> Result<Manifest, ReadFault>
+    ensures kept { S.objects store.new ≡ S.objects store.old }
+    ensures opens { ForSome (S.objects store.old) (λ all. OpensNewest all result) }
+    ensures opened { IfOk result (λ m. IsOpened (plain_manifest m)) }
+    ensures cause { HasCause ((name : Name) × IsErrOf result (ReadFault.Store name)) (S.faults store.old) (S.faults store.new) }
+    ensures told { (name : Name) → IsErrOf result (ReadFault.Store name) → ForSome (S.objects store.old) (λ _. S.failed store.new ≡ Some name) }
+    ensures clashes { S.clashes store.old ≤ S.clashes store.new }
+{
+    match newest_version(alloc, store) {
+        Ok(Some(version)) => open_version(alloc, store, version),
+        Ok(None) => Err(ReadFault::NoDataset),
+        Err(ListFault::Failed) => Err(ReadFault::Store(Name {
+            dir: Dir::Versions,
+            rest: Text::new(alloc),
+        })),
+        Err(ListFault::Memory) => Err(ReadFault::Memory),
+    }
+}
+
+// The manifest of a version.
+fn open_version<S: Store>(alloc: Global, store: &mut S, version: u64) -> Result<Manifest, ReadFault>
+    requires { IsVersion version }
+    ensures kept { S.objects store.new ≡ S.objects store.old }
+    ensures opens { ForSome (S.objects store.old) (λ all. OpensVersion all version result) }
+    ensures opened { IfOk result (λ m. IsOpened (plain_manifest m)) }
+    ensures cause { HasCause ((name : Name) × IsErrOf result (ReadFault.Store name)) (S.faults store.old) (S.faults store.new) }
+    ensures told { (name : Name) → IsErrOf result (ReadFault.Store name) → ForSome (S.objects store.old) (λ _. S.failed store.new ≡ Some name) }
+    ensures clashes { S.clashes store.old ≤ S.clashes store.new }
+{
+    let name = name_of_version(alloc, version)?;
+    match read_object(alloc, store, &name) {
+        Ok(bytes) => manifest_in(alloc, bytes, version, name),
+        Err(ObjectFault::Missing) => Err(ReadFault::Outside(name, Reason::Missing, 0)),
+        Err(ObjectFault::Size(size)) => Err(ReadFault::Outside(name, Reason::Size, size)),
+        Err(ObjectFault::Short) => Err(ReadFault::Outside(name, Reason::Short, 0)),
+        Err(ObjectFault::Failed) => Err(ReadFault::Store(name)),
+        Err(ObjectFault::Memory) => Err(ReadFault::Memory),
+    }
+}
+
+// The manifest in an object.
+fn manifest_in(alloc: Global, bytes: Blob, version: u64, name: Name) -> Result<Manifest, ReadFault>
+    requires { IsVersion version }
+    ensures manifest { ManifestIn bytes version name result }
+    ensures opened { IfOk result (λ m. IsOpened (plain_manifest m)) }
+{
+    match read_manifest(alloc, View::new(0, bytes.as_slice()), version) {
+        Ok(manifest) => Ok(manifest),
+        Err(ManifestFault::Plain) => Err(ReadFault::Outside(
+            name,
+            Reason::Manifest(ManifestReason::Plain),
+            0,
+        )),
+        Err(ManifestFault::Memory) => Err(ReadFault::Memory),
+    }
+}

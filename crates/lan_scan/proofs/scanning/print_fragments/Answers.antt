@@ -1,0 +1,40 @@
+use Rattle.std.proofs.Common.{◌≡◌, ◌∙◌, ◌<◌, ◌≤◌, List, ap, length, get_or, map, arith, rules}
+use Rattle.std.proofs.lemmas.List.{take_all}
+use Rattle.std.proofs.lemmas.Result.{err_from_is_err_and}
+use Rattle.lan_model.specs.Plain.{plain_field}
+use Rattle.lan_manifest.specs.Manifests.{plain_manifest}
+use Rattle.lan_manifest.specs.declared.manifest.Fragment.{Fragment}
+use Rattle.lan_scan.proofs.Fragments.{fragment_passed, prints_no_more}
+use Rattle.lan_scan.proofs.scanning.print_fragments.Goals as goal
+
+pub returns-in_err-print_fragment-clause-prints : goal.returns-in_err-print_fragment-clause-prints
+returns-in_err-print_fragment-clause-prints g c = λ all told.
+    let i = c.loop-fragment.fragment-index in
+    let f = c.fragment-item.result in
+    let below : i < length c.args.manifest.now.fragments = omega (arith, ap length c.as_slice-fragment-items.ensures) in
+    let is : f ≡ get_or c.args.manifest.now.fragments i f = c.fragment-item.is ∙ ap (λ (l : List Fragment). get_or l i f) c.as_slice-fragment-items.ensures in
+    let p = err_from_is_err_and c.from_residual.result c.from_residual.ensures.1 in
+    rw (p.1, p.2)
+    (prints_no_more all (plain_manifest c.args.manifest.now) i f c.args.printer.now c.args.waiting.now c.loop-fragment.waiting c.print_fragment.new.waiting _ _ _ c.in_err-print_fragment.field-0.0 c.requires.column c.requires.files below is
+    (c.loop-fragment.invariant.prints all told) (c.in_err-print_fragment.ensures.prints all (c.loop-fragment.invariant.kept ∙ told)))
+
+pub loop-fragment-preserved : goal.loop-fragment-preserved
+loop-fragment-preserved g c = record {
+  kept = search rules;
+  prints = λ all told.
+      let i = c.loop-fragment.fragment-index in
+      let f = c.fragment-item.result in
+      let below : i < length c.args.manifest.now.fragments = omega (arith, ap length c.as_slice-fragment-items.ensures) in
+      let is : f ≡ get_or c.args.manifest.now.fragments i f = c.fragment-item.is ∙ ap (λ (l : List Fragment). get_or l i f) c.as_slice-fragment-items.ensures in
+      fragment_passed all (map plain_field c.args.manifest.now.fields) c.args.manifest.now.fragments i f c.args.printer.now c.args.waiting.now c.loop-fragment.waiting c.print_fragment.new.waiting _ _ _ below is
+      (c.loop-fragment.invariant.prints all told) (c.in_ok-print_fragment.ensures.prints all (c.loop-fragment.invariant.kept ∙ told));
+  faults = search rules;
+  clashes = search rules;
+  later = search rules;
+}
+
+pub returns-clause-prints : goal.returns-clause-prints
+returns-clause-prints g c = λ all told.
+    let i = c.loop-fragment.fragment-index in
+    let ended : length c.args.manifest.now.fragments ≤ i = omega (arith, ap length c.as_slice-fragment-items.ensures) in
+    rw (take_all i c.args.manifest.now.fragments ended) at (c.loop-fragment.invariant.prints all told)

@@ -1,0 +1,20 @@
+use Rattle.std.proofs.Common.{rules}
+use Rattle.std.proofs.lemmas.Result.{err_from_is_err_and}
+use Rattle.lan_model.specs.PlainTable.{row_of}
+use Rattle.lan_rows.specs.Rows.{line_behind}
+use Rattle.lan_scan.proofs.Lines.{line_passed, lines_stopped}
+use Rattle.lan_scan.proofs.sending.print_rows.Goals as goal
+
+pub returns-in_err-print_row-clause-passes : goal.returns-in_err-print_row-clause-passes
+returns-in_err-print_row-clause-passes g c =
+    let p = err_from_is_err_and c.from_residual.result c.from_residual.ensures.1 in
+    rw (p.1, ← c.as_slice-row-items.ensures)
+    (lines_stopped (line_behind c.args.printer.now) row_of c.as_slice-row-items.result.now c.loop-row.row-index c.row-item.result c.row-item.result c.args.waiting.now c.loop-row.waiting _ _ _ _ (search rules) c.row-item.is
+    c.loop-row.invariant.sends c.in_err-print_row.ensures.passes.1)
+
+pub loop-row-preserved : goal.loop-row-preserved
+loop-row-preserved g c = record {
+  sends = line_passed (line_behind c.args.printer.now) row_of c.as_slice-row-items.result.now c.loop-row.row-index c.row-item.result c.row-item.result c.args.waiting.now c.loop-row.waiting c.print_row.new.waiting _ _ _ (search rules) c.row-item.is
+      c.loop-row.invariant.sends c.in_ok-print_row.ensures.passes;
+  later = search rules;
+}

@@ -1,0 +1,140 @@
+// The rows of a version, fragment by fragment.
+ghost use Rattle.std.specs.Prelude.{◌≡◌, ◌≤◌, ℕ, Some, All, IsErrOf, map};
+ghost use Rattle.std.specs.Option.{ForSome};
+ghost use Rattle.lan_store.specs.declared.name.Name.{Name};
+ghost use Rattle.lan_store.specs.Causes.{HasCause};
+ghost use Rattle.lan_model.specs.Plain.{plain_field};
+ghost use Rattle.lan_manifest.specs.Manifests.{plain_manifest};
+ghost use Rattle.lan_manifest.specs.Stage.{IsOneColumn, IsOneFile};
+ghost use Rattle.lan_read.specs.Newest.{IsOpened};
+ghost use Rattle.lan_scan.specs.Printing.{PrintsAll, PrintsFragment};
+ghost use Rattle.lan_scan.specs.Scans.{Scans};
+
+use crate::sending::{SendFault, print_rows};
+use lan_file::FileReason;
+use lan_manifest::{Fragment, Manifest};
+use lan_model::{Blob, FieldList};
+use lan_read::{FragmentFault, read_fragment};
+use lan_rows::RowPrinter;
+use lan_store::{Name, Sink, Store, write_all};
+use std::alloc::{AllocError, Global};
+
+// Room for the bytes that wait for a write, and a line behind them.
+const ROOM: usize = 1 << 17;
+
+/// Why not all rows were printed.
+#[derive(Debug, Drop)]
+pub enum ScanFault {
+    /// A data file isn't read: why, and at which byte, counted from the object's front.
+    Outside(Name, FileReason, u64),
+    /// The store failed at this name.
+    Store(Name),
+    /// The sink failed.
+    Write,
+    Memory,
+}
+
+impl From<AllocError> for ScanFault {
+    ghost use Rattle.lan_scan.specs.declared.scanning.ScanFault.TheVariants.{Memory};
+
+    ghost from_gives = { λ _ e. e ≡ Memory };
+
+    fn from(_: AllocError) -> Self {
+        ScanFault::Memory
+    }
+}
+
+/// Prints the rows of the version of this manifest, each as a line of compact JSON, in their order and
+/// in pieces of about 64 KiB.
+pub fn print_table<S: Store, O: Sink>(
+    alloc: Global,
+    store: &mut S,
+    manifest: &Manifest,
+    out: &mut O,
+) -> Result<(), ScanFault>
+    requires { IsOpened (plain_manifest manifest.now) }
+    ensures kept { S.objects store.new ≡ S.objects store.old }
+
+    // The sink got the lines of all rows; or the reason stands in a data file; or the sink got a front
+    // of the lines.
+    ensures scans { ForSome (S.objects store.old) (λ all. Scans all (plain_manifest manifest.now) (O.held out.old) (O.held out.new) result) }
+
+    ensures store_cause { HasCause ((name : Name) × IsErrOf result (ScanFault.Store name)) (S.faults store.old) (S.faults store.new) }
+    ensures store_name { (name : Name) → IsErrOf result (ScanFault.Store name) → ForSome (S.objects store.old) (λ _. S.failed store.new ≡ Some name) }
+    ensures clashes { S.clashes store.old ≤ S.clashes store.new }
+    ensures write_cause { HasCause (IsErrOf result ScanFault.Write) (O.faults out.old) (O.faults out.new) }
+{
+    let printer = RowPrinter::new(alloc, &manifest.fields)?;
+    let mut waiting = Blob::with_capacity(alloc, ROOM)?;
+    print_fragments(alloc, store, manifest, &printer, &mut waiting, out)?;
+    match write_all(out, waiting.as_slice()) {
+        Ok(()) => Ok(()),
+        Err(_) => Err(ScanFault::Write),
+    }
+}
+
+// Passes on the lines of all fragments' rows; the last ones may still wait.
+fn print_fragments<S: Store, O: Sink>(
+    alloc: Global,
+    store: &mut S,
+    manifest: &Manifest,
+    printer: &RowPrinter,
+    waiting: &mut Blob,
+    out: &mut O,
+) -> Result<(), ScanFault>
+    requires column { IsOneColumn (plain_manifest manifest.now).fields }
+    requires files { All IsOneFile manifest.now.fragments }
+    ensures kept { S.objects store.new ≡ S.objects store.old }
+    ensures prints { ForSome (S.objects store.old) (λ all. PrintsAll all (plain_manifest manifest.now) printer.now waiting.old waiting.new (O.held out.old) (O.held out.new) result) }
+    ensures store_cause { HasCause ((name : Name) × IsErrOf result (ScanFault.Store name)) (S.faults store.old) (S.faults store.new) }
+    ensures store_name { (name : Name) → IsErrOf result (ScanFault.Store name) → ForSome (S.objects store.old) (λ _. S.failed store.new ≡ Some name) }
+    ensures clashes { S.clashes store.old ≤ S.clashes store.new }
+    ensures write_cause { HasCause (IsErrOf result ScanFault.Write) (O.faults out.old) (O.faults out.new) }
+{
+    for fragment in manifest.fragments.as_slice() {
+        print_fragment(
+            alloc,
+            store,
+            &manifest.fields,
+            fragment,
+            printer,
+            waiting,
+            out,
+        )?;
+    }
+    Ok(())
+}
+
+// Passes on the lines of a fragment's rows.
+fn print_fragment<S: Store, O: Sink>(
+    alloc: Global,
+    store: &mut S,
+    fields: &FieldList,
+    fragment: &Fragment,
+    printer: &RowPrinter,
+    waiting: &mut Blob,
+    out: &mut O,
+) -> Result<(), ScanFault>
+    requires column { IsOneColumn (map plain_field fields.now) }
+    requires file { IsOneFile fragment.now }
+    ensures kept { S.objects store.new ≡ S.objects store.old }
+    ensures prints { ForSome (S.objects store.old) (λ all. PrintsFragment all (map plain_field fields.now) fragment.now printer.now waiting.old waiting.new (O.held out.old) (O.held out.new) result) }
+    ensures store_cause { HasCause ((name : Name) × IsErrOf result (ScanFault.Store name)) (S.faults store.old) (S.faults store.new) }
+    ensures store_name { (name : Name) → IsErrOf result (ScanFault.Store name) → ForSome (S.objects store.old) (λ _. S.failed store.new ≡ Some name) }
+    ensures clashes { S.clashes store.old ≤ S.clashes store.new }
+    ensures write_cause { HasCause (IsErrOf result ScanFault.Write) (O.faults out.old) (O.faults out.new) }
+{
+    let rows = match read_fragment(alloc, store, fields, fragment) {
+        Ok(rows) => rows,
+        Err(FragmentFault::Outside(name, why, place)) => {
+            return Err(ScanFault::Outside(name, why, place));
+        }
+        Err(FragmentFault::Store(name)) => return Err(ScanFault::Store(name)),
+        Err(FragmentFault::Memory) => return Err(ScanFault::Memory),
+    };
+    match print_rows(printer, &rows, waiting, out) {
+        Ok(()) => Ok(()),
+        Err(SendFault::Write) => Err(ScanFault::Write),
+        Err(SendFault::Memory) => Err(ScanFault::Memory),
+    }
+}

@@ -17,6 +17,8 @@ A case is a text file. Each line begins with a word that says what it is:
   to-full          its output goes to a device that is full
   has PATH HEX     a file that has to stand in the folder after it
   holds N          how many files stand in the folder after it
+  fronts PATH HEX  puts each front of these bytes but the whole as a file, one after another; each time
+                   `scan` has to end with status 15 and to name the file
 
 The program is the first argument, or the one that the gate or `rt run` left.
 """
@@ -87,6 +89,17 @@ def hexes(text):
     return b"" if text == "-" else bytes.fromhex(text)
 
 
+def faults_of_fronts(program, folder, path, data):
+    """What goes wrong where a front of a file is scanned, as lines."""
+    lines = []
+    for length in range(len(data)):
+        put(folder, path, data[:length])
+        done = subprocess.run([program, folder, "scan"], stdout=subprocess.PIPE, stderr=subprocess.PIPE)
+        if done.returncode != 15 or done.stdout or not done.stderr.startswith(f"outside: {path}: ".encode()):
+            lines.append(f"{length} bytes of {path}: status {done.returncode}, {done.stdout + done.stderr!r}")
+    return lines
+
+
 def faults_of(path, program, place):
     """What goes wrong in a case, as lines."""
     lines, runs, folder, current = [], 0, os.path.join(place, "set"), None
@@ -105,6 +118,11 @@ def faults_of(path, program, place):
                 finish()
                 runs += 1
                 current = Run(shlex.split(rest), word == "run")
+            elif word == "fronts":
+                finish()
+                name, _, data = rest.partition(" ")
+                runs += len(hexes(data))
+                lines += faults_of_fronts(program, folder, name, hexes(data))
             elif word in ("file", "folder", "set"):
                 finish()
                 name, _, data = rest.partition(" ")

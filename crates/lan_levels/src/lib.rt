@@ -24,4 +24,6 @@ pub use shredding::shred;
 pub use slot::{Piece, Runs, Slot, SlotRun, Slots, State};
 
 #[cfg(test)]
+mod samples;
+#[cfg(test)]
 mod tests;

@@ -153,6 +153,34 @@ fn each_call_of_the_store_fails_in_turn(rt: HostRuntime) -> Result<(), Fail> {
     Ok(())
 }
 
+// What a scan tells of the store that is left where only so many puts of a `create` and of two appends
+// were done.
+fn cut_off_after(alloc: Global, puts: u64) -> Result<(u8, Text), AllocError> {
+    let mut store = MemStore::new(alloc, Plans::new(alloc));
+    told(alloc, "create", "", &mut store)?;
+    told(alloc, "append", "{\"x\":7}", &mut store)?;
+    told(alloc, "append", "{\"x\":8}", &mut store)?;
+    told(alloc, "scan", "", &mut store.cut(puts))
+}
+
+#[test]
+fn each_front_of_the_puts_is_before_or_after(rt: HostRuntime) -> Result<(), Fail> {
+    let alloc = rt.alloc();
+    let one = "{\"x\":7}\n";
+    for (puts, text) in [
+        (0, "no dataset"),
+        (1, ""),
+        (2, ""),
+        (3, one),
+        (4, one),
+        (5, "{\"x\":7}\n{\"x\":8}\n"),
+    ] {
+        let (_, rows) = cut_off_after(alloc, puts)?;
+        assert_eq!(rt; rows.as_str(), text, "after {puts} puts");
+    }
+    Ok(())
+}
+
 #[test]
 fn others_may_be_in_the_way(rt: HostRuntime) -> Result<(), Fail> {
     let alloc = rt.alloc();

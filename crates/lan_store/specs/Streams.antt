@@ -21,9 +21,14 @@ abbrev pub Takes : {E : Type 0} → Option (List ℕ) → Option (List ℕ) → 
 Takes old new into (Ok n) = (new ≡ option_map (drop n) old) × ForSome old (λ left. TakesNext left into n)
 Takes old new into (Err _) = new ≡ old
 
+-- there was more than so much, and more than that was taken
+pub record TookOver (most : ℕ) (left : List ℕ) (now : Option (List ℕ)) : Type 0 where
+  pub long : most < length left
+  pub taken : (k : ℕ) × (most < k) × (now ≡ Some (drop k left))
+
 -- all that was left was read, where it was no more than this
 abbrev pub ReadsAll : ℕ → Option (List ℕ) → Option (List ℕ) → Result (Vec ℕ Global) ReadAllFault → Type 0
 ReadsAll most old new (Ok bytes) = (length bytes.items ≤ most) × ForSome old (λ left. (bytes.items ≡ left) × (new ≡ Some []))
-ReadsAll most old new (Err TooLong) = ForSome old (λ left. most < length left)
+ReadsAll most old new (Err TooLong) = ForSome old (λ left. TookOver most left new)
 ReadsAll most old new (Err Failed) = ⊤
 ReadsAll most old new (Err Memory) = ⊤

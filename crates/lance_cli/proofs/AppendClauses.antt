@@ -78,7 +78,7 @@ not_long c text input is told = omega (arith, is.short, ap length (text_is c tex
 pub append_cause : (words : List (List ℕ)) (c : Change) (result : Result Unit Fault) → asked_of words ≡ Some append → AppendServed c result → Cause (entry words c) result
 append_cause words c (Ok _) is (version, applied, text) = (append, is, λ input told long. absurd (omega (arith, long, not_long c applied.text input applied.input told)))
 append_cause words c (Err fault.ReadFault) is served = is
-append_cause words c (Err fault.InputTooLong) is (long, same, bytes) = (append, is, long)
+append_cause words c (Err fault.InputTooLong) is (long, same, bytes) = (append, is, λ input told. (long input told).long)
 append_cause words c (Err fault.NoDataset) is denial = (reads_newest words c is, denial.holds)
 append_cause words c (Err (fault.Outside name why place)) is denial = (
   reads_newest words c is,
@@ -234,7 +234,7 @@ append_decided words c (Ok _) a b i j s t is (version, applied, prints) store so
     inl (expects input told.asked outcome (Ok tt) (not_long c applied.text input applied.input given) (told_as words old input d told outcome append r is) (ap answered (sym meant.replies)))
 append_decided words c (Err fault.ReadFault) a b i j s t is served store source sink = λ calm old was input heard d told outcome r. absurd (calm (inr (inl (source.rose refl))))
 append_decided words c (Err fault.InputTooLong) a b i j s t is (long, same, bytes) store source sink = λ calm old was input heard d told outcome r.
-    inl (expects_long input told.asked outcome (long input (given_is words c.given input is heard)) (told_as words old input d told outcome append r is))
+    inl (expects_long input told.asked outcome (long input (given_is words c.given input is heard)).long (told_as words old input d told outcome append r is))
 append_decided words c (Err fault.NoDataset) a b i j s t is denial store source sink = λ calm old was input heard d told outcome r.
     let given = given_is words c.given input is heard in
     let replies = none_replied old d (λ t. append_reply d told.shown (rows_of t.columns (cut 1 [] input))) outcome r.agrees (denial.holds old was) (replied words old input d told outcome r is) in

@@ -129,4 +129,14 @@ append_prints words c (Err f) is served = absurd served
 
 pub append_takes : (c : Change) (result : Result Unit Fault) → AppendServed c result → TakenBy (Some append) c.given c.left result
 append_takes c (Ok _) (version, applied, prints) = λ all told. (applied.input.all all told).1
-append_takes c (Err f) served = tt
+append_takes c (Err fault.ReadFault) served = tt
+append_takes c (Err fault.InputTooLong) (long, same, bytes) = long
+append_takes c (Err fault.NoDataset) denial = λ all told. (denial.input.all all told).1
+append_takes c (Err (fault.Outside name why place)) denial = λ all told. (denial.input.all all told).1
+append_takes c (Err (fault.BadInput line why)) (why_is, denial) = λ all told. (denial.input.all all told).1
+append_takes c (Err (fault.Limit which number)) denial = λ all told. (denial.input.all all told).1
+append_takes c (Err (fault.Raced name)) (never, (version, applied), bytes) = λ all told. (applied.input.all all told).1
+append_takes c (Err (fault.StoreFault name)) stopped = tt
+append_takes c (Err fault.WriteFault) (version, applied, got) = λ all told. (applied.input.all all told).1
+append_takes c (Err fault.Memory) stopped = tt
+append_takes c (Err f) served = absurd served

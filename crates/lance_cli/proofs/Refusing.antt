@@ -81,7 +81,7 @@ append_due : (c : Change) (result : Result Unit Fault) (store_old store_new sour
 append_due c (Ok _) a b i j s t (version, applied, prints) store source sink calm old was input told m f newest short refused =
     absurd (not_refused old input version applied.puts (accepts_input c version (λ k n. k ≡ n) applied old input was told) m f newest refused)
 append_due c (Err fault.ReadFault) a b i j s t served store source sink calm old was input told m f newest short refused = absurd (calm (inr (inl (source.rose refl))))
-append_due c (Err fault.InputTooLong) a b i j s t (long, same, bytes) store source sink calm old was input told m f newest short refused = absurd (omega (arith, short, long input told))
+append_due c (Err fault.InputTooLong) a b i j s t (long, same, bytes) store source sink calm old was input told m f newest short refused = absurd (omega (arith, short, (long input told).long))
 append_due c (Err fault.NoDataset) a b i j s t none store source sink calm old was input told m f newest short refused = absurd (none.holds old was newest.version newest.newest.listed)
 append_due c (Err (fault.Outside name why place)) a b i j s t outside store source sink calm old was input told m f newest short refused =
     let (version, is_newest, stands) = outside.holds old was in

@@ -7,7 +7,7 @@ use Rattle.lan_model.specs.PlainTable.{row_of}
 use Rattle.lan_model.specs.Table.{FitsRow}
 use Rattle.lan_model.specs.declared.tree.Val.{Val}
 use Rattle.lan_store.specs.Objects.{and_then}
-use Rattle.lan_store.specs.Streams.{and_then_bytes}
+use Rattle.lan_store.specs.Streams.{and_then_bytes, TookOver}
 use Rattle.lan_store.specs.declared.name.Name.{Name}
 use Rattle.lan_store.specs.declared.name.Object.{Object}
 use Rattle.lan_manifest.specs.Manifests.{PlainManifest}
@@ -67,7 +67,7 @@ Prepares before text (Err f) = ⊥
 -- the whole input was read, or why not
 abbrev pub ReadsInput : Option (List ℕ) → Option (List ℕ) → Result (Vec ℕ Global) Fault → Type 0
 ReadsInput given left (Ok text) = IsInput given left text.items
-ReadsInput given left (Err fault.InputTooLong) = ForSome given (λ all. 2 ^ 28 < length all)
+ReadsInput given left (Err fault.InputTooLong) = ForSome given (λ all. TookOver (2 ^ 28) all left)
 ReadsInput given left (Err fault.ReadFault) = ⊤
 ReadsInput given left (Err fault.Memory) = ⊤
 ReadsInput given left (Err f) = ⊥
@@ -104,7 +104,7 @@ Stopped c cut = ((c.now ≡ c.before) ⊎ ((version : ℕ) × Applied c version 
 abbrev pub AppendServed : Change → Result Unit Fault → Type 0
 AppendServed c (Ok _) = (version : ℕ) × Applied c version (λ k n. k ≡ n) × (c.holds ≡ and_then_bytes c.held (version_text version))
 AppendServed c (Err fault.ReadFault) = (c.now ≡ c.before) × (c.holds ≡ c.held)
-AppendServed c (Err fault.InputTooLong) = ForSome c.given (λ all. 2 ^ 28 < length all) × (c.now ≡ c.before) × (c.holds ≡ c.held)
+AppendServed c (Err fault.InputTooLong) = ForSome c.given (λ all. TookOver (2 ^ 28) all c.left) × (c.now ≡ c.before) × (c.holds ≡ c.held)
 AppendServed c (Err fault.NoDataset) = Refused c (λ all text. NoneListed all)
 AppendServed c (Err (fault.Outside name why place)) = Refused c (λ all text. IsUnread all name why place)
 AppendServed c (Err (fault.BadInput line why)) = (why ≡ codes "bad row") × Refused c (λ all text. RefusesLine all text line)

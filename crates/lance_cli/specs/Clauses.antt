@@ -4,7 +4,7 @@ use Rattle.std.specs.Option.{ForSome}
 use Rattle.lan_model.specs.Dataset.{Dataset}
 use Rattle.lan_model.specs.Table.{Table}
 use Rattle.lan_store.specs.Causes.{Rose}
-use Rattle.lan_store.specs.Streams.{and_then_bytes}
+use Rattle.lan_store.specs.Streams.{and_then_bytes, TookOver}
 use Rattle.lan_store.specs.declared.name.Object.{Object}
 use Rattle.lan_model.specs.Plain.{PlainValue, unnumbered}
 use Rattle.lan_manifest.specs.Manifests.{PlainManifest}
@@ -133,7 +133,16 @@ Prints e held holds (Err fault.Memory) = Printed (asked_of e.words) e held holds
 Prints e held holds (Err (fault.Outside name why place)) = ⊤
 Prints e held holds (Err f) = holds ≡ held
 
+-- the input was read to its end, unless it was too long, or something failed before that
+abbrev pub TakenToEnd : Option (List ℕ) → Option (List ℕ) → Result Unit Fault → Type 0
+TakenToEnd input left (Ok _) = ForSome input (λ _. left ≡ Some [])
+TakenToEnd input left (Err fault.InputTooLong) = ForSome input (λ all. TookOver (2 ^ 28) all left)
+TakenToEnd input left (Err fault.ReadFault) = ⊤
+TakenToEnd input left (Err (fault.StoreFault name)) = ⊤
+TakenToEnd input left (Err fault.Memory) = ⊤
+TakenToEnd input left (Err f) = ForSome input (λ _. left ≡ Some [])
+
 -- a command that reads input takes it to its end, and no other takes a byte
 abbrev pub TakenBy : Option Asked → Option (List ℕ) → Option (List ℕ) → Result Unit Fault → Type 0
-TakenBy (Some append) input left result = OnOk result (ForSome input (λ _. left ≡ Some []))
+TakenBy (Some append) input left result = TakenToEnd input left result
 TakenBy asked input left result = left ≡ input

@@ -1,0 +1,5 @@
+pub mod Each
+pub mod Offsets
+pub mod Cuts
+pub mod BoolBytes
+pub mod Ends

@@ -1,0 +1,3 @@
+pub mod FirstSlot
+pub mod Rows
+pub mod Walks

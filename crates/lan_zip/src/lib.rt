@@ -1,0 +1,10 @@
+//! Full-zip pages: the slots of a column one after another, each with its value.
+#![tactic(auto)]
+
+mod fault;
+mod form;
+mod step;
+mod view;
+
+pub use fault::ZipFault;
+pub use view::{ZipSlots, ZipView};

@@ -1,3 +1,5 @@
 pub mod FirstSlot
 pub mod Rows
 pub mod Walks
+pub mod Words
+pub mod Gathering

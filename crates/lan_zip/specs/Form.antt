@@ -1,5 +1,5 @@
 -- How the slots of a full-zip page are laid out.
-use Rattle.std.specs.Prelude.{◌≡◌, ℕ, ◌+◌, ◌-◌, ◌/◌, ◌^◌, ◌<◌, ◌≤◌, cond, List, length, All}
+use Rattle.std.specs.Prelude.{◌≡◌, ℕ, ◌+◌, ◌-◌, ◌*◌, ◌/◌, ◌^◌, ◌<◌, ◌≤◌, cond, List, length, All}
 use lib.Dec.{ltb}
 use Rattle.lan_model.specs.declared.tree.Layer.{Layer}
 use Rattle.lan_model.specs.declared.tree.Primitive.TheVariants as kind
@@ -54,3 +54,5 @@ pub record IsForm (f : Form) : Type 0 where
   pub mask : f.mask ≡ 2 ^ f.bits - 1
   pub word : f.word ≤ 2
   pub some : 0 < f.lists → 0 < f.word
+  pub below : length (states_of f.codes.now) ≤ 2 ^ f.bits
+  pub room : (rep def : ℕ) → rep ≤ f.lists → def < 2 ^ f.bits → rep * 2 ^ f.bits + def < 2 ^ (8 * f.word)

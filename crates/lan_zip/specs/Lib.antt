@@ -1,2 +1,3 @@
 pub mod Form
 pub mod Spelled
+pub mod Written

@@ -3,8 +3,10 @@
 
 mod fault;
 mod form;
+mod page;
 mod step;
 mod view;
 
 pub use fault::ZipFault;
+pub use page::build_page;
 pub use view::{ZipSlots, ZipView};

@@ -1,0 +1,161 @@
+ghost use Rattle.std.specs.Prelude.{◌≡◌, ◌==◌, ◌||◌, [], ◌+◌, ◌-◌, ◌*◌, ◌^◌, ◌++◌, ◌<◌, ◌≤◌, cond, length, take, drop, slice_get, Some, All, IfOk, OnOk, IsTrue};
+ghost use Rattle.lan_bytes.specs.Numbers.{low_first};
+ghost use Rattle.lan_model.specs.Plain.{plain_type};
+ghost use Rattle.lan_levels.specs.Codes.{states_of};
+ghost use Rattle.lan_levels.specs.PlainSlots.{plain_piece, plain_slot};
+ghost use Rattle.lan_zip.specs.Form.{IsForm, plain_form};
+ghost use Rattle.lan_zip.specs.Written.{written_form, kind_of, CanStand, word_bytes, value_bytes, HasNumber, IsShort, Appends, is_indexed, Gathered, ArePage};
+
+use crate::form::{Form, ValueForm};
+use lan_bytes::Out;
+use lan_levels::{Piece, Shape, Slot, SlotBuf, State, ValueKind, codes_of, is_bare, number_of};
+use lan_model::{Blobs, Leaf, List, Ty, width};
+use std::alloc::{AllocError, Global};
+
+/// The buffers of the full-zip page of the slots from `from` to before `to`.
+///
+/// The first holds the slots. Where values are of any length, or the leaf has list layers, the
+/// second has the place of each row's first slot and the end, in eight bytes each.
+pub fn build_page(
+    alloc: Global,
+    leaf: &Leaf,
+    slots: &SlotBuf,
+    from: u64,
+    to: u64,
+) -> Result<Blobs, AllocError>
+    requires few { length leaf.now.layers ≤ 16 }
+    requires front { from ≤ to }
+    requires end { to ≤ length slots.now }
+    requires slots { All (CanStand (written_form leaf.now)) (take (to - from) (drop from slots.now)) }
+    ensures { IfOk result (ArePage (written_form leaf.now) (take (to - from) (drop from slots.now))) }
+{
+    let codes = codes_of(alloc, leaf)?;
+    let kind = kind_of(&leaf.ty);
+    let form = Form::of(Shape {
+        codes: &codes,
+        leaf,
+        values: &kind,
+    });
+    let mut content = Out::new(alloc);
+    let mut starts = Out::new(alloc);
+    gather(&form, slots, from, to, &mut content, &mut starts)?;
+    starts.num(content.len(), 8)?;
+    let mut buffers = List::new(alloc);
+    buffers.push(List::from_vec(content.finish()))?;
+    if is_indexed(&form) {
+        buffers.push(List::from_vec(starts.finish()))?;
+    }
+    Ok(buffers)
+}
+
+/// How values of a leaf of that type are stored.
+fn kind_of(ty: &Ty) -> ValueKind
+    ensures { result ≡ kind_of (plain_type ty.now) }
+{
+    match ty {
+        Ty::Bits(prim) => ValueKind::Flat(u64::from(width(*prim))),
+        Ty::Vector(prim, n) => ValueKind::Flat(u64::from(*n) * u64::from(width(*prim))),
+        _ => ValueKind::Variable,
+    }
+}
+
+/// Whether a page has the places of its rows.
+fn is_indexed(form: &Form<'_>) -> bool
+    ensures { result ≡ is_indexed (plain_form form.now) }
+{
+    form.lists != 0 || matches!(form.value, ValueForm::Variable)
+}
+
+/// Appends the place of a slot that begins a row.
+fn put_start(form: &Form<'_>, rep: u16, at: u64, starts: &mut Out) -> Result<(), AllocError>
+    ensures { OnOk result (starts.new ≡ starts.old ++ cond ((form.now.lists == 0) || (rep == form.now.lists)) (low_first 8 at) []) }
+{
+    if form.lists == 0 || rep == form.lists {
+        return starts.num(at, 8);
+    }
+    Ok(())
+}
+
+/// Writes the slots, and the place of each that begins a row.
+fn gather(
+    form: &Form<'_>,
+    slots: &SlotBuf,
+    from: u64,
+    to: u64,
+    content: &mut Out,
+    starts: &mut Out,
+) -> Result<(), AllocError>
+    requires form { IsForm form.now }
+    requires front { from ≤ to }
+    requires end { to ≤ length slots.now }
+    requires slots { All (CanStand (plain_form form.now)) (take (to - from) (drop from slots.now)) }
+    requires empty { (content.old ≡ []) × (starts.old ≡ []) }
+    ensures { OnOk result (Gathered (plain_form form.now) (take (to - from) (drop from slots.now)) content.new starts.new) }
+{
+    for i in from..to {
+        let slot = slots.slot(i);
+        put_start(form, slot.rep, content.len(), starts)?;
+        put_slot(form, slot, content)?;
+    }
+    Ok(())
+}
+
+/// Appends one slot.
+fn put_slot(form: &Form<'_>, slot: Slot<'_>, out: &mut Out) -> Result<(), AllocError>
+    requires form { IsForm form.now }
+    requires slot { CanStand (plain_form form.now) (plain_slot slot) }
+    ensures { OnOk result (Appends (plain_form form.now) (plain_slot slot.entry) out.old out.new) }
+{
+    let def = number(form, slot.state);
+    put_word(form.word, u64::from(slot.rep) * (u64::from(form.mask) + 1) + u64::from(def), out)?;
+    if is_bare(form.leaf, slot.state) {
+        return Ok(());
+    }
+    put_value(form.value, slot.value, out)
+}
+
+/// The number of a state that has one.
+fn number(form: &Form<'_>, state: State) -> u16
+    requires form { IsForm form.now }
+    requires numbered { HasNumber (plain_form form.now).states state }
+    ensures { slice_get (plain_form form.now).states result ≡ Some state }
+{
+    match number_of(form.codes, state) {
+        Some(number) => number,
+        None => 0,
+    }
+}
+
+/// Appends a number in so many bytes, the lowest first.
+fn put_word(word: u8, number: u64, out: &mut Out) -> Result<(), AllocError>
+    requires word { word ≤ 2 }
+    requires fits { number < 2 ^ (8 * word) }
+    ensures { OnOk result (out.new ≡ out.old ++ word_bytes word number) }
+{
+    match word {
+        0 => Ok(()),
+        1 => out.num(number, 1),
+        _ => out.num(number, 2),
+    }
+}
+
+/// Appends a value, or zeros where there is none.
+fn put_value(form: ValueForm, value: Piece<'_>, out: &mut Out) -> Result<(), AllocError>
+    requires { IsShort form (plain_piece value) }
+    ensures { OnOk result (out.new ≡ out.old ++ value_bytes form (plain_piece value.entry)) }
+{
+    match form {
+        ValueForm::Bool => out.num(u64::from(matches!(value, Piece::Bit(true))), 1),
+        ValueForm::Fixed(width) => match value {
+            Piece::Bytes(bytes) => out.bytes(bytes),
+            _ => out.zeros(width),
+        },
+        ValueForm::Variable => match value {
+            Piece::Bytes(bytes) => {
+                out.num(bytes.len() as u64, 4)?;
+                out.bytes(bytes)
+            }
+            _ => out.num(0, 4),
+        },
+    }
+}

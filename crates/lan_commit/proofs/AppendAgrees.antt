@@ -6,8 +6,9 @@ use Rattle.lan_model.specs.Plain.{PlainField, PlainValue}
 use Rattle.lan_model.specs.Table.{Table, FitsRow}
 use Rattle.lan_store.specs.declared.name.Object.{Object}
 use Rattle.lan_store.specs.Objects.{object}
-use Rattle.lan_file.specs.Parts.{HoldsRows}
-use Rattle.lan_file.specs.Texts.{IsRequiredInt64, page_bytes, column_text, descriptor_text}
+use Rattle.lan_file.specs.Files.{HoldsRows}
+use Rattle.lan_file.specs.Stage.{IsRequiredInt64}
+use Rattle.lan_file.specs.Texts.{page_bytes, column_text, descriptor_text}
 use Rattle.lan_file.specs.Writing.{entry_text, footer_text, file_from, file_bytes}
 use Rattle.lan_file.proofs.Pages.{length-page_bytes}
 use Rattle.lan_file.proofs.Written.{written_holds}

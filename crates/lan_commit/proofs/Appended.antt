@@ -14,7 +14,7 @@ use Rattle.lan_store.specs.declared.name.Object.{Object}
 use Rattle.lan_store.specs.Names.{same_dir, same_name}
 use Rattle.lan_store.specs.Objects.{object}
 use Rattle.lan_store.proofs.Held.{same_name_itself}
-use Rattle.lan_file.specs.Parts.{HoldsRows}
+use Rattle.lan_file.specs.Files.{HoldsRows}
 use Rattle.lan_file.specs.Writing.{file_bytes}
 use Rattle.lan_fresh.specs.Fresh.{fresh_file, file_path}
 use Rattle.lan_commit.specs.Limits.{bytes_limit}

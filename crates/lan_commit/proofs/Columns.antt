@@ -2,7 +2,7 @@
 use Rattle.std.proofs.Common.{◌≡◌, sym, ◌∙◌, ap, subst, ℕ, List, [], ◌∷◌, length, map, arith}
 use Rattle.std.specs.Prelude.{Some, slice_get}
 use Rattle.std.proofs.lemmas.Option.{same_Some}
-use Rattle.lan_file.specs.Texts.{IsRequiredInt64}
+use Rattle.lan_file.specs.Stage.{IsRequiredInt64}
 use Rattle.lan_manifest.specs.Manifests.{PlainManifest, manifest_object}
 use Rattle.lan_manifest.specs.Stage.{IsOneColumn}
 use Rattle.lan_model.specs.Plain.{PlainField, PlainValue, plain_field}

@@ -2,7 +2,7 @@
 ghost use Rattle.std.specs.Prelude.{◌≡◌, ◌<◌, ◌≤◌, ◌^◌, ◌+◌, ◌∷◌, ℕ, pos, [], length, map, ⊤, All, Some, None, IsErrOf, IfOk, nat_lt};
 ghost use Rattle.std.specs.List.{list_any};
 ghost use Rattle.std.specs.Option.{ForSome};
-ghost use Rattle.lan_file.specs.Texts.{IsRequiredInt64};
+ghost use Rattle.lan_file.specs.Stage.{IsRequiredInt64};
 ghost use Rattle.lan_fresh.specs.Fresh.{file_path, fresh_fragment};
 ghost use Rattle.lan_manifest.specs.Manifests.{plain_manifest, manifest_object};
 ghost use Rattle.lan_manifest.specs.Versions.{IsVersion};

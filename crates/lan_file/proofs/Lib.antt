@@ -7,3 +7,4 @@ pub mod Opened
 pub mod Stated
 pub mod Rows
 pub mod Plainly
+pub mod Slots

@@ -5,7 +5,8 @@ use Rattle.lan_model.specs.declared.tree.Primitive.TheVariants as p
 use Rattle.lan_model.specs.Plain.{primitive, PlainField, field, PlainValue, null, bits, raw, items, group}
 use Rattle.lan_model.specs.Table.{FitsRow}
 use Rattle.lan_file.specs.Numbers.{u64_bytes}
-use Rattle.lan_file.specs.Texts.{IsRequiredInt64, value_bytes, page_bytes}
+use Rattle.lan_file.specs.Stage.{IsRequiredInt64}
+use Rattle.lan_file.specs.Texts.{value_bytes, page_bytes}
 
 -- one value of 64 bits
 pub data IsValue : List PlainValue → Type 0 where

@@ -12,11 +12,12 @@ use Rattle.lan_file.specs.declared.opening.Head.{Head}
 use Rattle.lan_file.specs.declared.tail.Footer.{Footer}
 use Rattle.lan_file.specs.declared.tail.Extent.{Extent}
 use Rattle.lan_file.specs.Opening.{IsHead, JudgesPlain, StatesRows, column_in}
-use Rattle.lan_file.specs.Parts.{part, footer_of, extent, column_of, descriptor_of, HasColumn, States, IsPlain}
+use Rattle.lan_file.specs.Parts.{part, footer_of, extent, column_of, descriptor_of, HasColumn}
+use Rattle.lan_file.specs.Stage.{States, IsPlain, IsRequiredInt64}
 use Rattle.lan_file.specs.Reasons.{StandsIn, Breaks, GivesRows}
 use Rattle.lan_file.specs.Stating.{ArePlain, IsPage}
-use Rattle.lan_file.specs.Texts.{IsRequiredInt64}
 use Rattle.lan_file.proofs.PartLemmas.{part-part, length-part}
+use Rattle.lan_file.proofs.Slots.{stand_for}
 
 -- a file of one column, and its descriptor
 pub record Described (bytes : List ℕ) (head : Head) (descriptor : List ℕ) : Type 0 where
@@ -112,7 +113,7 @@ gives f bytes page stated rows found required s is read size p =
         regions = s.regions;
         plain = subst P same s.plain;
         page_before = omega (arith, same, s.page_before);
-        page = ap (λ (n : ℕ). part bytes 0 (8 * n)) count ∙ sym read ∙ sym p.spelled;
+        columns = stand_for f bytes (map row_of found) required (p.fit f required) (ap (λ (n : ℕ). part bytes 0 (8 * n)) count ∙ sym read ∙ sym p.spelled);
       };
       count = sym (length-map found row_of) ∙ count;
       fit = p.fit f required;

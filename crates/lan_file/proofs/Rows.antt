@@ -14,7 +14,8 @@ use Rattle.lan_model.specs.Plain.{PlainField, field, primitive, PlainValue, bits
 use Rattle.lan_model.specs.PlainTable.{row_of}
 use Rattle.lan_model.specs.Table.{FitsRow}
 use Rattle.lan_file.specs.Numbers.{u64_bytes}
-use Rattle.lan_file.specs.Texts.{IsRequiredInt64, value_bytes, page_bytes}
+use Rattle.lan_file.specs.Stage.{IsRequiredInt64}
+use Rattle.lan_file.specs.Texts.{value_bytes, page_bytes}
 
 -- of more bytes the first eight are the number
 first_eight : (xs : List ℕ) → 8 ≤ length xs → from_le_bytes w64 (take 8 xs) ≡ from_le_bytes w64 xs

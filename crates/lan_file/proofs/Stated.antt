@@ -15,7 +15,7 @@ use Rattle.lan_wire.proofs.MessageLaws.{front_not_nil}
 use Rattle.lan_wire.proofs.SpellingLaws.{same_read}
 use Rattle.lan_wire.proofs.WrittenLaws.{number_spelled}
 use Rattle.lan_model.specs.Plain.{PlainField}
-use Rattle.lan_file.specs.Parts.{States}
+use Rattle.lan_file.specs.Stage.{States}
 use Rattle.lan_file.specs.Stating.{IsLength, LengthOf, OnlyIf}
 use Rattle.lan_file.specs.Texts.{schema_text, descriptor_text}
 use Rattle.lan_file.proofs.Unique.{same_number}

@@ -16,10 +16,13 @@ use Rattle.lan_model.specs.Table.{FitsRow}
 use Rattle.lan_file.specs.declared.fault.FileReason.{FileReason}
 use Rattle.lan_file.specs.declared.fault.FileReason.TheVariants.{Missing, Size, Short, TooShort, Magic, Version, Region, Descriptor, Plain, Rows}
 use Rattle.lan_file.specs.Numbers.{u64_bytes}
-use Rattle.lan_file.specs.Texts.{IsRequiredInt64, value_bytes, page_bytes, schema_text, descriptor_text}
-use Rattle.lan_file.specs.Parts.{States, HoldsRows, descriptor_of, extent, part}
+use Rattle.lan_file.specs.Stage.{IsRequiredInt64, States}
+use Rattle.lan_file.specs.Texts.{value_bytes, page_bytes, schema_text, descriptor_text}
+use Rattle.lan_file.specs.Files.{HoldsRows}
+use Rattle.lan_file.specs.Parts.{descriptor_of, extent, part}
 use Rattle.lan_file.specs.Reasons.{IsSmall, Stands}
 use Rattle.lan_file.proofs.Pages.{IsValue, value, is_value, first, others}
+use Rattle.lan_file.proofs.Slots.{stood_for}
 
 number_in : Body → ℕ
 number_in (Num n) = n
@@ -64,7 +67,7 @@ same_rows f (x ∷ xs) (y ∷ ys) is xs_fit ys_fit size same =
 pub one_list : (f : PlainField ℕ) (bytes : List ℕ) (xs ys : List (List PlainValue)) → IsRequiredInt64 f → All (FitsRow (f ∷ [])) xs → All (FitsRow (f ∷ [])) ys → HoldsRows (f ∷ []) bytes xs → HoldsRows (f ∷ []) bytes ys → xs ≡ ys
 one_list f bytes xs ys is xs_fit ys_fit a b =
     let size = states_one (f ∷ []) (extent bytes (descriptor_of bytes)) (length xs) (length ys) a.plain.stated b.plain.stated in
-    same_rows f xs ys is xs_fit ys_fit size (sym a.page ∙ ap (λ (n : ℕ). part bytes 0 (8 * n)) size ∙ b.page)
+    same_rows f xs ys is xs_fit ys_fit size (sym (stood_for f bytes xs is xs_fit a.columns) ∙ ap (λ (n : ℕ). part bytes 0 (8 * n)) size ∙ stood_for f bytes ys is ys_fit b.columns)
 
 pub no_reason : (fields : List (PlainField ℕ)) (bytes : List ℕ) (rows : List (List PlainValue)) (reason : FileReason) (place : ℕ) → HoldsRows fields bytes rows → IsSmall bytes → Stands fields (length rows) (Some bytes) reason place → ⊥
 no_reason fields bytes rows Missing place h small s = absurd (cc s.0)

@@ -8,11 +8,14 @@ use Rattle.lan_model.specs.Table.{FitsRow}
 use Rattle.lan_file.specs.declared.tail.Footer.{Footer}
 use Rattle.lan_file.specs.declared.tail.Extent.{Extent}
 use Rattle.lan_file.specs.Numbers.{u16_bytes, u32_bytes, u64_bytes}
-use Rattle.lan_file.specs.Texts.{IsRequiredInt64, page_bytes, column_text, descriptor_text}
+use Rattle.lan_file.specs.Stage.{IsRequiredInt64}
+use Rattle.lan_file.specs.Texts.{page_bytes, column_text, descriptor_text}
 use Rattle.lan_file.specs.Writing.{entry_text, footer_text, file_from, file_bytes}
-use Rattle.lan_file.specs.Parts.{part, tail_of, footer_in, footer_of, extent_in, extent, column_of, descriptor_of, HoldsRows}
+use Rattle.lan_file.specs.Parts.{part, tail_of, footer_in, footer_of, extent_in, extent, column_of, descriptor_of}
+use Rattle.lan_file.specs.Files.{HoldsRows}
 use Rattle.lan_file.proofs.PartLemmas.{part-past, part-front, part-here}
 use Rattle.lan_file.proofs.Pages.{length-page_bytes}
+use Rattle.lan_file.proofs.Slots.{stand_for}
 
 abbrev written_footer : ℕ → ℕ → Footer
 written_footer columns_at table = record { columns_at = columns_at; column_table = table; globals_table = table + 16; globals = 1; columns = 1; major = 2; minor = 1 }
@@ -154,5 +157,5 @@ written_holds f rows is some fit small =
         column = ap (extent file) column_is ∙ l.column_part;
       };
       page_before = omega (arith, size, l.page_before, l.descriptor_before, first_at);
-      page = ap (λ (n : ℕ). part file 0 n) (sym size) ∙ l.page_part;
+      columns = stand_for f file rows is fit (ap (λ (n : ℕ). part file 0 n) (sym size) ∙ l.page_part);
     }

@@ -1,8 +1,12 @@
 pub mod Asking
+pub mod Files
+pub mod Layouts
 pub mod Numbers
 pub mod Opening
+pub mod Pages
 pub mod Parts
 pub mod Reasons
+pub mod Stage
 pub mod Stating
 pub mod Texts
 pub mod Writing

@@ -7,7 +7,8 @@ use Rattle.lan_file.specs.declared.fault.FileReason.TheVariants.{Magic, Version,
 use Rattle.lan_file.specs.declared.opening.Head.{Head}
 use Rattle.lan_file.specs.declared.opening.Opened.{Opened}
 use Rattle.lan_file.specs.declared.tail.Footer.{Footer}
-use Rattle.lan_file.specs.Parts.{part, footer_in, footer_of, column_of, descriptor_of, IsFile, InOrder, LieWithin, HasRegions, IsPlain}
+use Rattle.lan_file.specs.Parts.{part, footer_in, footer_of, column_of, descriptor_of, IsFile, InOrder, LieWithin, HasRegions}
+use Rattle.lan_file.specs.Stage.{IsPlain}
 use Rattle.lan_file.specs.Reasons.{IsSmall}
 use Rattle.lan_file.specs.Stating.{ArePlain}
 

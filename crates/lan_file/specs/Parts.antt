@@ -1,11 +1,9 @@
--- The parts of a data file: its footer, its tables, the parts that they name, and the rows in its page.
-use Rattle.std.specs.Prelude.{◌≡◌, ℕ, ◌+◌, ◌*◌, ◌-◌, ◌^◌, ◌<◌, ◌≤◌, List, length, take, drop, codes}
+-- The parts of a data file: its footer, its tables, and the parts that they name.
+use Rattle.std.specs.Prelude.{◌≡◌, ℕ, ◌+◌, ◌*◌, ◌-◌, ◌<◌, ◌≤◌, List, length, take, drop, codes}
 use Rattle.std.specs.Int.{w16, w32, w64}
 use Rattle.lan_bytes.specs.Numbers.{number_at}
-use Rattle.lan_model.specs.Plain.{PlainField, PlainValue}
 use Rattle.lan_file.specs.declared.tail.Footer.{Footer}
 use Rattle.lan_file.specs.declared.tail.Extent.{Extent}
-use Rattle.lan_file.specs.Texts.{page_bytes, column_text, descriptor_text}
 
 -- so many bytes from a place on
 abbrev pub part : List ℕ → ℕ → ℕ → List ℕ
@@ -73,24 +71,3 @@ pub record LieWithin (f : Footer) (column descriptor : Extent) : Type 0 where
 pub record HasRegions (bytes : List ℕ) : Type 0 where
   pub tables : InOrder (length bytes) (footer_of bytes)
   pub parts : LieWithin (footer_of bytes) (column_of bytes) (descriptor_of bytes)
-
--- the descriptor of so many rows, in the writer's own spelling
-pub record States (fields : List (PlainField ℕ)) (descriptor : List ℕ) (rows : ℕ) : Type 0 where
-  pub some : 0 < rows
-  pub fits : 8 * rows < 2 ^ 64
-  pub spelled : descriptor ≡ descriptor_text fields rows
-
--- one column in one page of so many rows, and both messages in the writer's own spelling
-pub record IsPlain (fields : List (PlainField ℕ)) (bytes : List ℕ) (rows : ℕ) : Type 0 where
-  pub described : 0 < (footer_of bytes).globals
-  pub one : (footer_of bytes).columns ≡ 1
-  pub stated : States fields (extent bytes (descriptor_of bytes)) rows
-  pub column : extent bytes (column_of bytes) ≡ column_text rows
-
--- the bytes are a file that holds these rows
-pub record HoldsRows (fields : List (PlainField ℕ)) (bytes : List ℕ) (rows : List (List PlainValue)) : Type 0 where
-  pub file : IsFile bytes
-  pub regions : HasRegions bytes
-  pub plain : IsPlain fields bytes (length rows)
-  pub page_before : 8 * length rows ≤ (footer_of bytes).columns_at
-  pub page : part bytes 0 (8 * length rows) ≡ page_bytes rows

@@ -8,7 +8,9 @@ use Rattle.lan_file.specs.declared.fault.FileFault.{FileFault}
 use Rattle.lan_file.specs.declared.fault.FileFault.TheVariants as fault
 use Rattle.lan_file.specs.declared.fault.FileReason.{FileReason}
 use Rattle.lan_file.specs.declared.fault.FileReason.TheVariants.{Missing, Size, Short, TooShort, Magic, Version, Region, Descriptor, Plain, Rows}
-use Rattle.lan_file.specs.Parts.{tail_of, footer_of, IsFile, HasRegions, IsPlain, HoldsRows}
+use Rattle.lan_file.specs.Parts.{tail_of, footer_of, IsFile, HasRegions}
+use Rattle.lan_file.specs.Stage.{IsPlain}
+use Rattle.lan_file.specs.Files.{HoldsRows}
 
 -- an object that is read has at most 2^30 bytes
 abbrev pub IsSmall : List ℕ → Type 0

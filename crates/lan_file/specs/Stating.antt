@@ -5,8 +5,8 @@ use Rattle.lan_wire.specs.Readers.{num_of}
 use Rattle.lan_wire.specs.Spelling.{num_field}
 use Rattle.lan_model.specs.Plain.{PlainField, PlainValue}
 use Rattle.lan_model.specs.Table.{FitsRow}
-use Rattle.lan_file.specs.Parts.{States}
-use Rattle.lan_file.specs.Texts.{IsRequiredInt64, page_bytes, column_text}
+use Rattle.lan_file.specs.Stage.{States, IsRequiredInt64}
+use Rattle.lan_file.specs.Texts.{page_bytes, column_text}
 
 -- the bytes are the length of so many rows, as an item of the descriptor
 pub record IsLength (rest : List ℕ) (rows : ℕ) : Type 0 where

@@ -1,15 +1,9 @@
 -- The messages of a file of one column in one page, and the page's bytes, in the writer's one spelling.
-use Rattle.std.specs.Prelude.{ℕ, ◌*◌, List, [], ◌∷◌, ◌++◌, flat_map, false, negsuc, ⊤}
+use Rattle.std.specs.Prelude.{ℕ, ◌*◌, List, [], ◌∷◌, ◌++◌, flat_map, negsuc}
 use Rattle.lan_wire.specs.Spelling.{num_field, part_item, packed_field}
-use Rattle.lan_model.specs.declared.tree.Primitive.TheVariants as p
-use Rattle.lan_model.specs.Plain.{PlainField, field, primitive, PlainValue, bits, fields_from}
+use Rattle.lan_model.specs.Plain.{PlainField, PlainValue, bits, fields_from}
 use Rattle.lan_schema.specs.FieldTree.{all_messages}
 use Rattle.lan_file.specs.Numbers.{u64_bytes}
-
--- what this stage takes of all fields: a column of int64 that is never null
-abbrev pub IsRequiredInt64 : PlainField ℕ → Type 0
-IsRequiredInt64 (field id name false (primitive p.Int64)) = ⊤
-IsRequiredInt64 f = ⊥
 
 -- the eight bytes of a column's value
 abbrev pub value_bytes : List PlainValue → List ℕ

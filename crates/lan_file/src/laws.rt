@@ -4,9 +4,9 @@ ghost use Rattle.std.specs.Prelude.{◌≡◌, ℕ, ◌^◌, ◌<◌, List, [], 
 ghost use Rattle.lan_model.specs.Plain.{PlainField, PlainValue};
 ghost use Rattle.lan_model.specs.Table.{FitsRow};
 ghost use Rattle.lan_file.specs.declared.fault.FileReason.{FileReason};
-ghost use Rattle.lan_file.specs.Parts.{HoldsRows};
+ghost use Rattle.lan_file.specs.Files.{HoldsRows};
 ghost use Rattle.lan_file.specs.Reasons.{IsSmall, Stands};
-ghost use Rattle.lan_file.specs.Texts.{IsRequiredInt64};
+ghost use Rattle.lan_file.specs.Stage.{IsRequiredInt64};
 ghost use Rattle.lan_file.specs.Writing.{file_bytes};
 
 /// What is written of rows holds these rows.

@@ -6,7 +6,7 @@ ghost use Rattle.lan_store.specs.Objects.{object, TellsFailed};
 ghost use Rattle.lan_file.specs.Asking.{Asked, Reads};
 ghost use Rattle.lan_file.specs.Opening.{IsWithin, JudgesPlain, StatesRows, column_in};
 ghost use Rattle.lan_file.specs.Reasons.{GivesRows};
-ghost use Rattle.lan_file.specs.Texts.{IsRequiredInt64};
+ghost use Rattle.lan_file.specs.Stage.{IsRequiredInt64};
 
 use crate::asking::fetch;
 use crate::fault::{FileFault, FileReason};

@@ -1,7 +1,7 @@
 // How many rows a file states, where its two messages have the writer's own spelling.
 ghost use Rattle.std.specs.Prelude.{◌≡◌, ◌≢◌, ℕ, ◌^◌, ◌≤◌, List, [], ◌∷◌, ◌++◌, length, IfOk, MatchOption};
 ghost use Rattle.lan_model.specs.Plain.{plain_field};
-ghost use Rattle.lan_file.specs.Parts.{States};
+ghost use Rattle.lan_file.specs.Stage.{States};
 ghost use Rattle.lan_file.specs.Stating.{IsLength, LengthOf, ArePlain, FoundIf, OnlyIf};
 
 use crate::texts::{column_text, schema_text};

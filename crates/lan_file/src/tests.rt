@@ -2,7 +2,7 @@ ghost use Rattle.std.specs.Prelude.{◌≡◌, ℕ, ◌<◌, [], ◌∷◌, leng
 ghost use Rattle.lan_model.specs.Plain.{PlainField, bits, plain_field};
 ghost use Rattle.lan_model.specs.PlainTable.{row_of};
 ghost use Rattle.lan_model.specs.Table.{FitsRow};
-ghost use Rattle.lan_file.specs.Texts.{IsRequiredInt64};
+ghost use Rattle.lan_file.specs.Stage.{IsRequiredInt64};
 
 use crate::{FileFault, FileReason, plain_file, read_plain};
 use lan_model::{Field, Primitive, Row, Rows, Text, Ty, Val};

@@ -3,7 +3,8 @@ ghost use Rattle.lan_model.specs.Plain.{plain_field, plain_value};
 ghost use Rattle.lan_model.specs.PlainTable.{row_of};
 ghost use Rattle.lan_model.specs.Table.{FitsRow};
 ghost use Rattle.lan_file.specs.Numbers.{u16_bytes, u32_bytes, u64_bytes};
-ghost use Rattle.lan_file.specs.Texts.{IsRequiredInt64, value_bytes, page_bytes};
+ghost use Rattle.lan_file.specs.Stage.{IsRequiredInt64};
+ghost use Rattle.lan_file.specs.Texts.{value_bytes, page_bytes};
 ghost use Rattle.lan_file.specs.Writing.{entry_text, footer_text, file_bytes};
 
 use crate::texts::{column_text, descriptor_text};

@@ -8,8 +8,8 @@ use Rattle.lan_model.specs.Table.{Table, FitsRow}
 use Rattle.lan_store.specs.declared.name.Object.{Object}
 use Rattle.lan_store.specs.declared.name.Name.{Name}
 use Rattle.lan_store.specs.Objects.{object}
-use Rattle.lan_file.specs.Parts.{HoldsRows}
-use Rattle.lan_file.specs.Texts.{IsRequiredInt64}
+use Rattle.lan_file.specs.Files.{HoldsRows}
+use Rattle.lan_file.specs.Stage.{IsRequiredInt64}
 use Rattle.lan_file.specs.Reasons.{Stands as StandsInBytes}
 use Rattle.lan_file.specs.declared.fault.FileReason.{FileReason}
 use Rattle.lan_file.proofs.Unique.{one_list, no_reason}

@@ -2,4 +2,5 @@ pub mod Fragments
 pub mod Newest
 pub mod Opens
 pub mod Reasons
+pub mod Stage
 pub mod Standing

@@ -107,7 +107,11 @@ fn put_slot(form: &Form<'_>, slot: Slot<'_>, out: &mut Out) -> Result<(), AllocE
     ensures { OnOk result (Appends (plain_form form.now) (plain_slot slot.entry) out.old out.new) }
 {
     let def = number(form, slot.state);
-    put_word(form.word, u64::from(slot.rep) * (u64::from(form.mask) + 1) + u64::from(def), out)?;
+    put_word(
+        form.word,
+        u64::from(slot.rep) * (u64::from(form.mask) + 1) + u64::from(def),
+        out,
+    )?;
     if is_bare(form.leaf, slot.state) {
         return Ok(());
     }

@@ -3,7 +3,8 @@ use Rattle.std.specs.Prelude.{All, ℕ}
 use Rattle.lan_model.specs.Plain.{PlainField}
 use Rattle.lan_model.specs.PlainTable.{row_of}
 use Rattle.lan_model.specs.Table.{FitsRow}
-use Rattle.lan_file.specs.Texts.{IsRequiredInt64, page_bytes}
+use Rattle.lan_file.specs.Stage.{IsRequiredInt64}
+use Rattle.lan_file.specs.Texts.{page_bytes}
 use Rattle.lan_file.proofs.page.rows_in.Given as goal
 
 abbrev pub invariant-loop-i : goal.invariant-loop-i

@@ -1,0 +1,8 @@
+-- What of a version's objects is read so far; removing a line here widens the promise.
+use Rattle.std.specs.Prelude.{ℕ, List}
+use Rattle.lan_store.specs.declared.name.Object.{Object}
+use Rattle.lan_manifest.specs.declared.manifest.Deletion.{Deletion}
+
+-- no deletion file is read
+abbrev pub HoldsDeletions : List Object → Deletion → ℕ → List ℕ → Type 0
+HoldsDeletions objects d physical deleted = ⊥

@@ -20,6 +20,7 @@ one_column : (name : List ℕ) → 0 < length name → AreColumns (int64_column 
 one_column name some = record {
   named = (omega arith, named, λ i j d before below. absurd (omega arith));
   each = (tt, tt);
+  items = (tt, tt);
   leaves = omega arith;
   layers = shallow;
 } where

@@ -1,19 +1,32 @@
 //! Schemas: the messages of their fields in the Lance format, read and written.
 #![tactic(auto)]
 
+mod building;
 mod entry;
+mod fault;
+mod fields;
 mod fresh;
 mod laws;
+mod listing;
+mod logical;
+mod logical_laws;
+mod node;
 mod reading;
 mod renumbering;
+mod rules;
+mod shape;
 #[cfg(test)]
 mod tests;
 mod trees;
 mod writing;
 
 pub use entry::Entry;
+pub use fault::SchemaFault;
+pub use fields::read_fields;
 pub use fresh::fresh_id;
 pub use laws::{one_entry, trees_are_found_again, what_is_written_is_read};
+pub use logical::leaf_type;
+pub use logical_laws::leaf_types_have_one_name;
 pub use reading::read_entry;
 pub use renumbering::renumber;
 pub use trees::write_fields;

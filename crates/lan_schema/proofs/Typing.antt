@@ -17,7 +17,7 @@ use Rattle.lan_schema.specs.Shapes.{takes, shape_of}
 abbrev FieldsOption : Type 0
 FieldsOption = Option (PlainFields ℕ)
 
-some_fields : (a b : PlainFields ℕ) → Some a ≡ Some b → a ≡ b
+pub some_fields : (a b : PlainFields ℕ) → Some a ≡ Some b → a ≡ b
 some_fields a b e = cc
 
 none_some : (a : PlainFields ℕ) → (let r : FieldsOption = None in r) ≡ Some a → ⊥

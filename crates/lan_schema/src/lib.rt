@@ -20,6 +20,7 @@ mod shape;
 mod tests;
 mod trees;
 mod writing;
+mod writing_laws;
 
 pub use entry::Entry;
 pub use fault::SchemaFault;

@@ -7,14 +7,14 @@ use Rattle.std.proofs.lemmas.List.{append-nil}
 use Rattle.lan_schema.specs.FieldMessage.{Flat}
 use Rattle.lan_schema.specs.Forest.{Trees, none, tree, same, forest, laid, Absent, Apart, AreDistinct}
 
-nat_same : (n : ℕ) → eqb n n ≡ true
+pub nat_same : (n : ℕ) → eqb n n ≡ true
 nat_same n = grind (arith, nat_tests)
 
 pub same_self : (z : ℤ) → same z z ≡ true
 same_self (pos n) = nat_same n
 same_self (negsuc n) = nat_same n
 
-not_true : (b : Bool) → (b ≡ true → ⊥) → b ≡ false
+pub not_true : (b : Bool) → (b ≡ true → ⊥) → b ≡ false
 not_true true h = absurd (h refl)
 not_true false h = refl
 
@@ -23,6 +23,12 @@ same_other (pos m) (pos n) h = not_true (eqb m n) (λ t. h (ap pos (eqb-true m n
 same_other (pos m) (negsuc n) h = refl
 same_other (negsuc m) (pos n) h = refl
 same_other (negsuc m) (negsuc n) h = not_true (eqb m n) (λ t. h (ap negsuc (eqb-true m n t)))
+
+pub same_is : (z w : ℤ) → same z w ≡ true → z ≡ w
+same_is (pos m) (pos n) h = ap pos (eqb-true m n h)
+same_is (pos m) (negsuc n) h = absurd cc
+same_is (negsuc m) (pos n) h = absurd cc
+same_is (negsuc m) (negsuc n) h = ap negsuc (eqb-true m n h)
 
 -- fields of other parents are passed over
 passed : (q p : ℤ) (ts : Trees) (fs : List Flat) → (p ≡ q → ⊥) → Absent q ts → forest q (laid p ts ++ fs) ≡ forest q fs

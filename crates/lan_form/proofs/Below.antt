@@ -1,5 +1,5 @@
 -- What is looked up in an object.
-use Rattle.std.proofs.Common.{◌≡◌, ℕ, zero, suc, ◌+◌, ◌*◌, ◌<◌, ◌≤◌, List, [], ◌∷◌, ◌++◌, map, max, Option, Some, None, Bool, true, false, Ordering, Less, Equal, Greater, is_eq, nat_cmp, cond, bytes_eq, codes, IfSome, IfNone, option_map, Bor, Err, length, get_or, Vec, Global, rules, refl, sym, ap, ◌∙◌, arith}
+use Rattle.std.proofs.Common.{◌≡◌, ℕ, zero, suc, ◌+◌, ◌*◌, ◌<◌, ◌≤◌, List, [], ◌∷◌, max, Option, Some, None, Ordering, Less, Equal, Greater, is_eq, nat_cmp, cond, bytes_eq, codes, IfSome, IfNone, option_map, Bor, Err, length, get_or, refl, sym, ap, ◌∙◌, arith}
 use Rattle.std.specs.Cmp.Lexicographic.{slice_cmp}
 use Rattle.std.specs.Ordering.{match_ordering}
 use Rattle.std.proofs.lemmas.Map.Text.{is_eq-slice_cmp}

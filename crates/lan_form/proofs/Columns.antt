@@ -1,5 +1,5 @@
 -- Fields of the code as plain fields.
-use Rattle.std.proofs.Common.{◌≡◌, refl, sym, ap, ◌∙◌, ℕ, Bool, List, rules, map}
+use Rattle.std.proofs.Common.{◌≡◌, sym, ap, ◌∙◌, ℕ, Bool, List, rules, map}
 use Rattle.lan_model.specs.declared.tree.Field.{Field, roll-Field}
 use Rattle.lan_model.specs.declared.tree.Field as declared
 use Rattle.lan_model.specs.declared.tree.Ty.{Ty, Struct, the_lemmas}

@@ -1,6 +1,6 @@
 -- Numbers that are given one after another.
-use Rattle.std.proofs.Common.{◌≡◌, refl, sym, ap, ◌∙◌, subst, ℕ, ◌+◌, ◌*◌, ◌%◌, ◌^◌, ◌<◌, ◌≤◌, Bool, true, false, List, [], ◌∷◌, ◌++◌, length, map, drop, get_or, arith, append_assoc}
-use Rattle.std.specs.Prelude.{Some, Ok, Err, ⊤}
+use Rattle.std.proofs.Common.{◌≡◌, refl, sym, ap, ◌∙◌, subst, ℕ, ◌+◌, ◌^◌, ◌<◌, Bool, List, [], ◌∷◌, ◌++◌, length, map, drop, get_or, arith, append_assoc}
+use Rattle.std.specs.Prelude.{Some, Ok, Err}
 use Rattle.std.proofs.lemmas.List.{map-append}
 use Rattle.serde_json.specs.Data.{Items}
 use Rattle.serde_json.specs.View.{view, items_view}
@@ -11,10 +11,10 @@ use Rattle.lan_form.specs.Judged.{Judged, on_good, and_then}
 use Rattle.lan_form.specs.Form.{field_form, each_form}
 use Rattle.lan_form.proofs.Lists.{next_of}
 use Rattle.lan_model.specs.declared.tree.Field.{Field}
-use Rattle.lan_model.specs.Plain.{PlainType, primitive, vector, text, bytes, list, struct, PlainField, field, PlainFields, no_fields, one_field, plain_field, plain_fields, fields_from, unnumbered, type_unnumbered, all_unnumbered}
+use Rattle.lan_model.specs.Plain.{PlainType, primitive, vector, text, bytes, list, struct, PlainField, field, one_field, plain_field, plain_fields, fields_from}
 use Rattle.lan_schema.specs.Logical.{leaf_type, IsLeafType}
 use Rattle.lan_schema.proofs.LeafNames.{named_once}
-use Rattle.lan_form.specs.Numbers.{fields_in, inside, all_in, CountsFrom, InsideFrom, CountFrom, FieldCounted, TypeCounted, AllCounted}
+use Rattle.lan_form.specs.Numbers.{fields_in, all_in, CountsFrom, InsideFrom, CountFrom, FieldCounted, TypeCounted, AllCounted}
 
 leaf_counted_of : (t : PlainType ℕ) (n : ℕ) → IsLeafType t → TypeCounted n t n
 leaf_counted_of (primitive q) n leaf = λ small. (tt, omega arith)

@@ -1,6 +1,6 @@
 -- What a text stands for is what a table may have.
 use Rattle.std.proofs.Common.{◌≡◌, ◌≢◌, inl, inr, refl, sym, ap, ◌∙◌, subst, ℕ, ◌+◌, ◌<◌, ◌≤◌, Bool, true, false, List, [], ◌∷◌, ◌++◌, length, map, arith}
-use Rattle.std.specs.Prelude.{cond, ◌&&◌, ◌||◌, nat_eq, nat_le, bytes_eq, codes, Option, Some, None, Ok, Err, All, AllPairs, ⊤}
+use Rattle.std.specs.Prelude.{cond, ◌||◌, nat_eq, nat_le, bytes_eq, codes, Option, Some, None, Ok, Err, All, AllPairs}
 use Rattle.std.specs.List.{list_any}
 use Rattle.std.proofs.lemmas.Bool.{cases_Bool, false≢true}
 use Rattle.std.proofs.lemmas.Bool.Decides.{nat_tests}
@@ -9,7 +9,7 @@ use Rattle.std.proofs.lemmas.List.Folds.{list_any-append}
 use Rattle.std.proofs.lemmas.List.Kept.{AllPairs-cons}
 use Rattle.std.proofs.lemmas.Slice.Eq.{bytes_eq-Decides}
 use Rattle.serde_json.specs.Data.{Data, null, boolean, number, string, array, object, Items, no_items, item, Members, no_members, member}
-use Rattle.lan_model.specs.Plain.{PlainType, primitive, vector, text, bytes, list, struct, PlainField, field, PlainFields, no_fields, one_field, fields_from, type_unnumbered}
+use Rattle.lan_model.specs.Plain.{PlainType, primitive, vector, text, bytes, list, struct, field, fields_from, type_unnumbered}
 use Rattle.lan_model.specs.Table.{Column, name_of, names_of, AreNamed, IsField, AreFields, AreColumns, all_depths}
 use Rattle.lan_schema.specs.Logical.{leaf_type, IsLeafType}
 use Rattle.lan_schema.proofs.LeafNames.{named_once}
@@ -19,7 +19,7 @@ use Rattle.lan_form.specs.Shape.{Label, label_of}
 use Rattle.lan_form.specs.Names.{first_twice, unless_twice, distinct}
 use Rattle.lan_form.specs.Limits.{are_shallow, within}
 use Rattle.lan_form.proofs.Few.{and_both}
-use Rattle.lan_form.specs.Form.{ColumnType, known, typed, named, field_from, unless_empty, field_form, item_form, fields_form, list_form, each_form}
+use Rattle.lan_form.specs.Form.{ColumnType, known, typed, named, field_from, field_form, item_form, fields_form, list_form, each_form}
 
 -- ---- answers in steps
 
@@ -33,7 +33,7 @@ and_then_ok (Err e) f b is = absurd (cc is)
 
 -- ---- names
 
-names_are : (fs : List Column) → names_of (fields_from fs) ≡ map name_of fs
+pub names_are : (fs : List Column) → names_of (fields_from fs) ≡ map name_of fs
 names_are [] = refl
 names_are (field id name nullable ty ∷ fs) = ap (λ l. name ∷ l) (names_are fs)
 

@@ -4,6 +4,8 @@ pub mod Counting
 pub mod Depths
 pub mod Few
 pub mod Formed
+pub mod JsonText
 pub mod Limited
 pub mod Lists
+pub mod ReadBack
 pub mod Twice

@@ -1,11 +1,11 @@
 -- Fields within the limits are few enough for their numbers.
-use Rattle.std.proofs.Common.{◌≡◌, sym, ap, ◌∙◌, subst, ℕ, ◌+◌, ◌^◌, ◌<◌, ◌≤◌, List, length, map, arith, true}
+use Rattle.std.proofs.Common.{◌≡◌, sym, ap, ◌∙◌, subst, ◌^◌, ◌<◌, List, length, map, arith}
 use Rattle.std.specs.Prelude.{Ok}
 use Rattle.lan_model.specs.declared.tree.Field.{Field}
-use Rattle.lan_model.specs.Plain.{plain_fields, all_unnumbered, fields_from}
+use Rattle.lan_model.specs.Plain.{plain_fields, all_unnumbered}
 use Rattle.lan_model.specs.PlainTable.{column_of}
 use Rattle.lan_model.specs.Table.{AreFields, all_depths}
-use Rattle.lan_form.specs.Limits.{are_shallow, within, all_leaves}
+use Rattle.lan_form.specs.Limits.{are_shallow, within}
 use Rattle.lan_form.specs.Numbers.{all_in}
 use Rattle.lan_form.proofs.Depths.{columns_are, all_depths_are}
 use Rattle.lan_form.proofs.Few.{few_fields}

@@ -2,7 +2,7 @@
 use Rattle.std.specs.Prelude.{ℕ, List, [], ◌∷◌, cond, nat_eq, length, bytes_eq, codes, Option, Some, None, Ok, Err}
 use Rattle.serde_json.specs.Data.{Data, null, boolean, number, string, array, object, Items, no_items, item, Members, no_members, member}
 use Rattle.serde_json.specs.Read.{read}
-use Rattle.lan_model.specs.Plain.{PlainType, list, struct, PlainField, field, fields_from, type_unnumbered}
+use Rattle.lan_model.specs.Plain.{PlainType, list, struct, field, fields_from, type_unnumbered}
 use Rattle.lan_model.specs.Table.{Column}
 use Rattle.lan_schema.specs.Logical.{leaf_type}
 use Rattle.lan_form.specs.declared.faults.FormFault.TheVariants as fault

@@ -1,5 +1,5 @@
 -- What the keys of an object say of a field.
-use Rattle.std.specs.Prelude.{ℕ, List, Bool, true, false, cond, ◌&&◌, ◌||◌, bytes_eq, codes, Option, Some, None, option_and_then, is_some, Ok, Err}
+use Rattle.std.specs.Prelude.{ℕ, List, Bool, true, cond, ◌&&◌, ◌||◌, bytes_eq, codes, Option, option_and_then, is_some, Ok, Err}
 use Rattle.serde_json.specs.Data.{Data, Members, no_members, member}
 use Rattle.serde_json.specs.Find.{get_member, as_str, as_bool, as_array}
 use Rattle.lan_form.specs.declared.faults.FormFault.TheVariants.{Form}

@@ -2,10 +2,13 @@
 #![tactic(auto)]
 
 mod faults;
+pub mod laws;
 mod limits;
 mod names;
+mod printing;
 mod reading;
 mod shape;
 
 pub use faults::FormFault;
+pub use printing::to_json;
 pub use reading::{field_from_json, from_json};

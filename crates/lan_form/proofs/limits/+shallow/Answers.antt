@@ -1,4 +1,4 @@
-use Rattle.std.proofs.Common.{sym, ◌∙◌, ap, ◌+◌, drop, arith, false, true}
+use Rattle.std.proofs.Common.{sym, ◌∙◌, ap, ◌+◌, drop, arith}
 use Rattle.std.specs.Prelude.{◌&&◌}
 use Rattle.lan_model.specs.Plain.{plain_fields, all_unnumbered}
 use Rattle.lan_model.specs.PlainTable.{column_of}

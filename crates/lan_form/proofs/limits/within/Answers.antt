@@ -1,4 +1,4 @@
-use Rattle.std.proofs.Common.{sym, ◌∙◌, ◌≡◌, true, false, refl}
+use Rattle.std.proofs.Common.{sym, ◌∙◌, true, false, refl}
 use Rattle.std.specs.Prelude.{nat_le}
 use Rattle.lan_model.specs.Plain.{plain_fields, all_unnumbered}
 use Rattle.lan_form.specs.Limits.{all_leaves}

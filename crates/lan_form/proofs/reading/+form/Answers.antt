@@ -1,5 +1,4 @@
-use Rattle.std.proofs.Common.{◌≡◌, ◌<◌, ◌+◌, ◌*◌, ◌%◌, ◌^◌, subst, Some, length, arith, rules, ap, sym, ◌∙◌}
-use Rattle.serde_json.specs.Data.{depth}
+use Rattle.std.proofs.Common.{◌≡◌, ◌+◌, ◌%◌, ◌^◌, subst, Some, arith, rules, sym}
 use Rattle.serde_json.specs.Find.{as_array}
 use Rattle.serde_json.specs.View.{view, items_view}
 use Rattle.lan_model.specs.Plain.{plain_type}

@@ -17,6 +17,7 @@ use Rattle.lan_form.specs.declared.faults.FormFault.TheVariants as fault
 use Rattle.lan_form.specs.Judged.{Judged, on_good, and_then}
 use Rattle.lan_form.specs.Shape.{Label, label_of}
 use Rattle.lan_form.specs.Names.{first_twice, unless_twice, distinct}
+use Rattle.lan_form.specs.Items.{HasNamedItems, HaveNamedItems}
 use Rattle.lan_form.specs.Limits.{are_shallow, within}
 use Rattle.lan_form.proofs.Few.{and_both}
 use Rattle.lan_form.specs.Form.{ColumnType, known, typed, named, field_from, field_form, item_form, fields_form, list_form, each_form}
@@ -61,47 +62,57 @@ unless_ok gs fs (Some name) is = absurd (cc is)
 
 -- ---- types
 
-leaf_is_field : (t : PlainType ℕ) (name : List ℕ) (nullable : Bool) → IsLeafType t → IsField (field tt name nullable (type_unnumbered t))
-leaf_is_field (primitive p) name nullable is = tt
-leaf_is_field (vector p n) name nullable is = is
-leaf_is_field text name nullable is = tt
-leaf_is_field bytes name nullable is = tt
-leaf_is_field (list f) name nullable is = absurd is
-leaf_is_field (struct fs) name nullable is = absurd is
+-- a type, of a field with any name
+abbrev IsSound : ColumnType → Type 0
+IsSound t = (name : List ℕ) (nullable : Bool) → IsField (field tt name nullable t) × HasNamedItems (field tt name nullable t)
 
-known_ok : (kind : List ℕ) (o : Option (PlainType ℕ)) (t : ColumnType) (name : List ℕ) (nullable : Bool) → leaf_type kind ≡ o → known kind o ≡ Ok t → IsField (field tt name nullable t)
-known_ok kind None t name nullable found is = absurd (cc is)
-known_ok kind (Some u) t name nullable found is =
+leaf_is_field : (t : PlainType ℕ) → IsLeafType t → IsSound (type_unnumbered t)
+leaf_is_field (primitive p) is = λ name nullable. (tt, tt)
+leaf_is_field (vector p n) is = λ name nullable. (is, tt)
+leaf_is_field text is = λ name nullable. (tt, tt)
+leaf_is_field bytes is = λ name nullable. (tt, tt)
+leaf_is_field (list f) is = absurd is
+leaf_is_field (struct fs) is = absurd is
+
+known_ok : (kind : List ℕ) (o : Option (PlainType ℕ)) (t : ColumnType) → leaf_type kind ≡ o → known kind o ≡ Ok t → IsSound t
+known_ok kind None t found is = absurd (cc is)
+known_ok kind (Some u) t found is =
     let same : type_unnumbered u ≡ t = cc is in
-    subst (λ v. IsField (field tt name nullable v)) same (leaf_is_field u name nullable (named_once kind u found).0)
+    subst IsSound same (leaf_is_field u (named_once kind u found).0)
+
+-- a field with a name
+abbrev pub IsGood : Column → Type 0
+IsGood f = IsField f × (0 < length (name_of f)) × HasNamedItems f
 
 -- fields beside each other, each with a name
 abbrev pub AreGood : List Column → Type 0
-AreGood fs = AreNamed (fields_from fs) × AreFields (fields_from fs)
+AreGood fs = AreNamed (fields_from fs) × AreFields (fields_from fs) × HaveNamedItems (fields_from fs)
 
-typed_ok : (kind : List ℕ) (inner : Judged Column) (inside : Judged (List Column)) (t : ColumnType) (name : List ℕ) (nullable : Bool)
-    → ((g : Column) → inner ≡ Ok g → IsField g) → ((gs : List Column) → inside ≡ Ok gs → AreGood gs) → typed kind inner inside ≡ Ok t → IsField (field tt name nullable t)
-typed_ok kind inner inside t name nullable one all is =
+list_sound : (g : Column) → IsGood g → IsSound (list g)
+list_sound g good = λ name nullable. (good.0, (good.1, good.2))
+
+struct_sound : (gs : List Column) → AreGood gs → IsSound (struct (fields_from gs))
+struct_sound gs good = λ name nullable. ((good.0, good.1), good.2)
+
+typed_ok : (kind : List ℕ) (inner : Judged Column) (inside : Judged (List Column)) (t : ColumnType)
+    → ((g : Column) → inner ≡ Ok g → IsGood g) → ((gs : List Column) → inside ≡ Ok gs → AreGood gs) → typed kind inner inside ≡ Ok t → IsSound t
+typed_ok kind inner inside t one all is =
     let rest = cond (bytes_eq kind (codes "struct")) (on_good (λ fs. struct (fields_from fs)) inside) (known kind (leaf_type kind)) in
     elim (cases_Bool (bytes_eq kind (codes "list"))) [
       | inl same ↦
           let (g, g_is, made) = on_good_ok list inner t (subst (λ b. cond b (on_good list inner) rest ≡ Ok t) same is) in
-          subst (λ v. IsField (field tt name nullable v)) made (one g g_is)
+          subst IsSound made (list_sound g (one g g_is))
       | inr other ↦
           let left : rest ≡ Ok t = subst (λ b. cond b (on_good list inner) rest ≡ Ok t) other is in
           elim (cases_Bool (bytes_eq kind (codes "struct"))) [
             | inl same ↦
                 let (gs, gs_is, made) = on_good_ok (λ fs. struct (fields_from fs)) inside t (subst (λ b. cond b (on_good (λ fs. struct (fields_from fs)) inside) (known kind (leaf_type kind)) ≡ Ok t) same left) in
-                subst (λ v. IsField (field tt name nullable v)) made (all gs gs_is)
-            | inr leaf ↦ known_ok kind (leaf_type kind) t name nullable refl (subst (λ b. cond b (on_good (λ fs. struct (fields_from fs)) inside) (known kind (leaf_type kind)) ≡ Ok t) leaf left)
+                subst IsSound made (struct_sound gs (all gs gs_is))
+            | inr leaf ↦ known_ok kind (leaf_type kind) t refl (subst (λ b. cond b (on_good (λ fs. struct (fields_from fs)) inside) (known kind (leaf_type kind)) ≡ Ok t) leaf left)
           ]
     ]
 
--- a field with a name
-abbrev pub IsGood : Column → Type 0
-IsGood f = IsField f × (0 < length (name_of f))
-
-named_ok : (l : Label) (r : Judged ColumnType) (f : Column) → ((t : ColumnType) → r ≡ Ok t → IsField (field tt l.name l.nullable t)) → named l r ≡ Ok f → IsGood f
+named_ok : (l : Label) (r : Judged ColumnType) (f : Column) → ((t : ColumnType) → r ≡ Ok t → IsSound t) → named l r ≡ Ok f → IsGood f
 named_ok l r f each is =
     let made = on_good (field tt l.name l.nullable) r in
     elim (cases_Bool (nat_eq (length l.name) 0)) [
@@ -109,12 +120,13 @@ named_ok l r f each is =
       | inr some ↦
           let (t, t_is, f_is) = on_good_ok (field tt l.name l.nullable) r f (subst (λ b. cond b (Err fault.NoName) made ≡ Ok f) some is) in
           let long : 0 < length l.name = grind (arith, nat_tests, some) in
-          subst IsGood f_is (each t t_is, long)
+          let sound = each t t_is l.name l.nullable in
+          subst IsGood f_is (sound.0, long, sound.1)
     ]
 
-from_ok : (label : Judged Label) (inner : Judged Column) (inside : Judged (List Column)) (f : Column) → ((g : Column) → inner ≡ Ok g → IsField g) → ((gs : List Column) → inside ≡ Ok gs → AreGood gs) → field_from label inner inside ≡ Ok f → IsGood f
+from_ok : (label : Judged Label) (inner : Judged Column) (inside : Judged (List Column)) (f : Column) → ((g : Column) → inner ≡ Ok g → IsGood g) → ((gs : List Column) → inside ≡ Ok gs → AreGood gs) → field_from label inner inside ≡ Ok f → IsGood f
 from_ok (Err e) inner inside f one all is = absurd (cc is)
-from_ok (Ok l) inner inside f one all is = named_ok l (typed l.kind inner inside) f (λ t t_is. typed_ok l.kind inner inside t l.name l.nullable one all t_is) is
+from_ok (Ok l) inner inside f one all is = named_ok l (typed l.kind inner inside) f (λ t t_is. typed_ok l.kind inner inside t one all t_is) is
 
 -- ---- lists
 
@@ -126,8 +138,8 @@ abbrev items_in : Items → ℕ
 items_in no_items = 0
 items_in (item d ds) = items_in ds + 1
 
-list_good : (gs fs : List Column) → 0 < length gs → AreFields (fields_from gs) → All (λ name. 0 < length name) (map name_of gs) → distinct gs ≡ Ok fs → AreGood fs
-list_good gs fs some each names is =
+list_good : (gs fs : List Column) → 0 < length gs → AreFields (fields_from gs) → All (λ name. 0 < length name) (map name_of gs) → HaveNamedItems (fields_from gs) → distinct gs ≡ Ok fs → AreGood fs
+list_good gs fs some each names items is =
     let said = unless_ok gs fs (first_twice [] (map name_of gs)) is in
     let pairs = (apart [] (map name_of gs) said.1).0 in
     let same = names_are gs in
@@ -138,6 +150,7 @@ list_good gs fs some each names is =
         subst (λ l. AllPairs (λ a b. a ≢ b) l) (sym same) pairs,
       ),
       each,
+      items,
     )
 
 mutual
@@ -149,11 +162,11 @@ mutual
   field_ok (array ds) f is = absurd (cc is)
   field_ok (object ms) f is = from_ok (label_of ms) (item_form ms) (fields_form ms) f (λ g e. item_ok ms g e) (λ gs e. fields_ok ms gs e) is
 
-  item_ok : (ms : Members) (f : Column) → item_form ms ≡ Ok f → IsField f
+  item_ok : (ms : Members) (f : Column) → item_form ms ≡ Ok f → IsGood f
   item_ok no_members f is = absurd (cc is)
   item_ok (member k d ms) f is =
       elim (cases_Bool (bytes_eq (codes "item") k)) [
-        | inl here ↦ (field_ok d f (subst (λ b. cond b (field_form d) (item_form ms) ≡ Ok f) here is)).0
+        | inl here ↦ field_ok d f (subst (λ b. cond b (field_form d) (item_form ms) ≡ Ok f) here is)
         | inr later ↦ item_ok ms f (subst (λ b. cond b (field_form d) (item_form ms) ≡ Ok f) later is)
       ]
 
@@ -174,20 +187,20 @@ mutual
   list_ok (array (item d ds)) fs is =
       let (gs, gs_is, then) = and_then_ok (each_form (item d ds)) distinct fs is in
       let each = each_ok (item d ds) gs gs_is in
-      list_good gs fs (each.2 (omega arith)) each.0 each.1 then
+      list_good gs fs (each.3 (omega arith)) each.0 each.1 each.2 then
   list_ok (object ms) fs is = absurd (cc is)
 
-  each_ok : (ds : Items) (fs : List Column) → each_form ds ≡ Ok fs → AreFields (fields_from fs) × All (λ name. 0 < length name) (map name_of fs) × (0 < items_in ds → 0 < length fs)
+  each_ok : (ds : Items) (fs : List Column) → each_form ds ≡ Ok fs → AreFields (fields_from fs) × All (λ name. 0 < length name) (map name_of fs) × HaveNamedItems (fields_from fs) × (0 < items_in ds → 0 < length fs)
   each_ok no_items fs is =
       let none : [] ≡ fs = cc is in
-      subst (λ gs. AreFields (fields_from gs) × All (λ name. 0 < length name) (map name_of gs) × (0 < 0 → 0 < length gs)) none (tt, All-nil (λ name. 0 < length name), (λ some. absurd (omega (arith, some))))
+      subst (λ gs. AreFields (fields_from gs) × All (λ name. 0 < length name) (map name_of gs) × HaveNamedItems (fields_from gs) × (0 < 0 → 0 < length gs)) none (tt, All-nil (λ name. 0 < length name), tt, (λ some. absurd (omega (arith, some))))
   each_ok (item d ds) fs is =
       let (f, f_is, then) = and_then_ok (field_form d) (λ g. on_good (λ gs. g ∷ gs) (each_form ds)) fs is in
       let (gs, gs_is, made) = on_good_ok (λ gs. f ∷ gs) (each_form ds) fs then in
       let first = field_ok d f f_is in
       let rest = each_ok ds gs gs_is in
-      subst (λ all. AreFields (fields_from all) × All (λ name. 0 < length name) (map name_of all) × (0 < items_in ds + 1 → 0 < length all)) made
-      ((first.0, rest.0), All-cons (λ name. 0 < length name) (name_of f) (map name_of gs) first.1 rest.1, (λ some. omega arith))
+      subst (λ all. AreFields (fields_from all) × All (λ name. 0 < length name) (map name_of all) × HaveNamedItems (fields_from all) × (0 < items_in ds + 1 → 0 < length all)) made
+      ((first.0, rest.0), All-cons (λ name. 0 < length name) (name_of f) (map name_of gs) first.1 rest.1, (first.2, rest.2), (λ some. omega arith))
 
 -- ---- limits
 
@@ -221,4 +234,5 @@ alone_good (field id name nullable ty) good = (
     (λ i j d low high. absurd (omega (arith, low, high))),
   ),
   (good.0, tt),
+  (good.2, tt),
 )

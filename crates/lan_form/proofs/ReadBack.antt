@@ -193,6 +193,19 @@ list_formed (one_field f fs) are each =
     ap (λ r. and_then r distinct) each ∙ distinct_fields (columns_in (one_field f fs)) (subst AreNamed (sym (columns_from (one_field f fs))) are)
 
 mutual
+  named_items : (f : PlainField ℕ) → HasNamedItems (unnumbered f) → HasNamedItems f
+  named_items (field id name nullable (primitive q)) items = tt
+  named_items (field id name nullable (vector q n)) items = tt
+  named_items (field id name nullable text) items = tt
+  named_items (field id name nullable bytes) items = tt
+  named_items (field id name nullable (list inner)) items = (subst (λ n. 0 < length n) (name_unnumbered inner) items.0, named_items inner items.1)
+  named_items (field id name nullable (struct members)) items = all_named_items members items
+
+  all_named_items : (fs : PlainFields ℕ) → HaveNamedItems (all_unnumbered fs) → HaveNamedItems fs
+  all_named_items no_fields items = tt
+  all_named_items (one_field f fs) items = (named_items f items.0, all_named_items fs items.1)
+
+mutual
   field_formed : (f : PlainField ℕ) → IsField (unnumbered f) → 0 < length (name_of f) → HasNamedItems f → field_form (field_data f) ≡ Ok (unnumbered f)
   field_formed (field id name nullable (primitive q)) is some items = leaf_formed name nullable (primitive q) tt some
   field_formed (field id name nullable (vector q n)) is some items = leaf_formed name nullable (vector q n) is some
@@ -241,5 +254,5 @@ read_back fields columns items =
     let shallow = ap (λ all. are_shallow (all_depths all 0)) (sym same) ∙ are_shallow_by (all_depths (fields_from cs) 0) columns.layers in
     let deep = fields_depth fs 0 16 refl is shallow in
     let read_as : read (print (tree.json_tokens (json.array (fields_json fs)))) ≡ Some (array (fields_data fs)) = read_tree (json.array (fields_json fs)) (none_in fs) (omega (arith, deep)) ∙ ap (option_map array) (fields_read fs) in
-    let formed : list_form (array (fields_data fs)) ≡ Ok cs = list_formed fs are (fields_formed fs is are.1 items) ∙ ap (λ l. Ok l) (columns_in_from fields) in
+    let formed : list_form (array (fields_data fs)) ≡ Ok cs = list_formed fs are (fields_formed fs is are.1 (all_named_items fs (subst HaveNamedItems same items))) ∙ ap (λ l. Ok l) (columns_in_from fields) in
     ap (λ r. and_then (some_or fault.Json r) (λ d. and_then (list_form d) within)) read_as ∙ ap (λ r. and_then r within) formed ∙ within_limits cs columns

@@ -8,4 +8,4 @@ use Rattle.lan_form.specs.Printed.{json_of}
 
 -- the JSON of fields that a table may have, with a name for each list's item, stands for them, apart from their numbers
 abbrev pub IsReadBack : List (PlainField ℕ) → Type 0
-IsReadBack fields = AreColumns (map unnumbered fields) → HaveNamedItems (fields_from fields) → form (json_of (fields_from fields)) ≡ Ok (map unnumbered fields)
+IsReadBack fields = AreColumns (map unnumbered fields) → HaveNamedItems (fields_from (map unnumbered fields)) → form (json_of (fields_from fields)) ≡ Ok (map unnumbered fields)

@@ -8,6 +8,8 @@ mod names;
 mod printing;
 mod reading;
 mod shape;
+#[cfg(test)]
+mod tests;
 
 pub use faults::FormFault;
 pub use printing::to_json;

@@ -1,0 +1,11 @@
+pub mod Below
+pub mod Columns
+pub mod Counting
+pub mod Depths
+pub mod Few
+pub mod Formed
+pub mod JsonText
+pub mod Limited
+pub mod Lists
+pub mod ReadBack
+pub mod Twice

@@ -1,0 +1,10 @@
+pub mod Form
+pub mod Items
+pub mod Judged
+pub mod Labels
+pub mod Laws
+pub mod Limits
+pub mod Names
+pub mod Numbers
+pub mod Printed
+pub mod Shape

@@ -1,0 +1,16 @@
+//! The JSON form of schemas, read and printed.
+#![tactic(auto)]
+
+mod faults;
+pub mod laws;
+mod limits;
+mod names;
+mod printing;
+mod reading;
+mod shape;
+#[cfg(test)]
+mod tests;
+
+pub use faults::FormFault;
+pub use printing::to_json;
+pub use reading::{field_from_json, from_json};

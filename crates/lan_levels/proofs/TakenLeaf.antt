@@ -1,5 +1,5 @@
 -- A leaf's value is taken, or no value has its slot.
-use Rattle.std.proofs.Common.{◌≡◌, ◌≢◌, ℕ, Bool, true, List, [], ◌∷◌, ◌++◌, IsUtf8, refl, ap, sym, ◌∙◌, subst, arith}
+use Rattle.std.proofs.Common.{◌≡◌, ◌≢◌, ℕ, ◌+◌, Bool, true, List, [], ◌∷◌, ◌++◌, IsUtf8, refl, ap, sym, ◌∙◌, subst, arith}
 use Rattle.std.specs.List.{Contains}
 use Rattle.lan_model.specs.declared.tree.Layer.{Layer}
 use Rattle.lan_model.specs.declared.tree.Layer.TheVariants as layer
@@ -8,10 +8,10 @@ use Rattle.lan_model.specs.Fits.{Fits}
 use Rattle.lan_levels.specs.declared.slot.State.TheVariants as state
 use Rattle.lan_levels.specs.declared.join.Join.{Join}
 use Rattle.lan_levels.specs.declared.join.Join.TheVariants as join
-use Rattle.lan_levels.specs.PlainSlots.{bytes, PlainSlot}
+use Rattle.lan_levels.specs.PlainSlots.{nothing, bytes, PlainSlot}
 use Rattle.lan_levels.specs.SlotsOf.{slots_of, slot}
 use Rattle.lan_levels.specs.Loosened.{loosened}
-use Rattle.lan_levels.specs.BadSlots.{IsBadText, HasNull}
+use Rattle.lan_levels.specs.BadSlots.{IsBadText}
 use Rattle.lan_levels.specs.Taken.{Step, Took, Refused, IsAlone, leaf_slot, IsLeafValue, HasShape, LeafRefused, BeginsIn}
 
 leaf_slots_is : (ty : PlainType ℕ) (n : Bool) (r : ℕ) (v : PlainValue) → slots_of ty (layer.Item n ∷ []) r v ≡ leaf_slot ty r v ∷ []
@@ -148,8 +148,12 @@ bad_text ty whole old new i s t st step here is bad = record {
   bad = bad;
 }
 
-bad_null : (whole old new : ℕ → List PlainSlot) (i : ℕ) (s : PlainSlot) → Stands i whole old → Step i old new s → s.state ≡ state.Null 0 → HasNull (whole i) 0
-bad_null whole old new i s st step e = record { slot = s; stands = st s (new i) step.here; null = e }
+bad_null : (whole old new : ℕ → List PlainSlot) (i : ℕ) (s : PlainSlot) (k : ℕ) → Stands i whole old → Step i old new s → s.rep ≡ k → s.state ≡ state.Null 0 → s.value ≡ nothing
+    → Contains (whole i) (slot (0 + k) (state.Null 0) nothing)
+bad_null whole old new i s k st step r e v =
+    let rep : s.rep ≡ 0 + k = omega (arith, r) in
+    let is : s ≡ slot (0 + k) (state.Null 0) nothing = same_slot s (slot (0 + k) (state.Null 0) nothing) rep e v in
+    subst (λ (x : PlainSlot). Contains (whole i) x) is (st s (new i) step.here)
 
 pub leaf_refused : (id : ℕ) (name : List ℕ) (n : Bool) (ty : PlainType ℕ) (k i : ℕ) (whole old new : ℕ → List PlainSlot) (s : PlainSlot) (e : Join)
     → IsAlone ty → Stands i whole old → Step i old new s → s.rep ≡ k → LeafRefused id n ty s e → Refused (field id name n ty) k i whole old e
@@ -161,13 +165,13 @@ leaf_refused id name n ty k i whole old new s (join.Shape d) a st step r h =
     let g : leaf_slot ty k w ≡ s = cc in
     h.1 w hw (ap (λ (x : ℕ). leaf_slot ty x w) r ∙ g)))
 leaf_refused id name n (primitive p) k i whole old new s (join.NotNull d) a st step r h =
-    (h.0, record { not_nullable = h.1; nulls = (0, refl, bad_null whole old new i s st step h.2) })
+    (h.0, record { not_nullable = h.1; outer = k; nulls = (0, refl, bad_null whole old new i s k st step r h.2 h.3) })
 leaf_refused id name n (vector p c) k i whole old new s (join.NotNull d) a st step r h =
-    (h.0, record { not_nullable = h.1; nulls = (0, refl, bad_null whole old new i s st step h.2) })
+    (h.0, record { not_nullable = h.1; outer = k; nulls = (0, refl, bad_null whole old new i s k st step r h.2 h.3) })
 leaf_refused id name n text k i whole old new s (join.NotNull d) a st step r h =
-    (h.0, record { not_nullable = h.1; nulls = (0, refl, bad_null whole old new i s st step h.2) })
+    (h.0, record { not_nullable = h.1; outer = k; nulls = (0, refl, bad_null whole old new i s k st step r h.2 h.3) })
 leaf_refused id name n byte_type k i whole old new s (join.NotNull d) a st step r h =
-    (h.0, record { not_nullable = h.1; nulls = (0, refl, bad_null whole old new i s st step h.2) })
+    (h.0, record { not_nullable = h.1; outer = k; nulls = (0, refl, bad_null whole old new i s k st step r h.2 h.3) })
 leaf_refused id name n (list item) k i whole old new s (join.NotNull d) a st step r h = absurd a
 leaf_refused id name n (struct members) k i whole old new s (join.NotNull d) a st step r h = absurd a
 leaf_refused id name n (primitive p) k i whole old new s (join.NotText d) a st step r h = let e : primitive p ≡ text = h.1 in absurd (cc)

@@ -212,7 +212,7 @@ HasShape ty v = FitsItem (type_loosened ty) v
 -- why a slot of the leaf `id` is no value's
 abbrev pub LeafRefused : ℕ → Bool → PlainType ℕ → PlainSlot → Join → Type 0
 LeafRefused id n ty s (join.Shape d) = (id ≡ d) × ((w : PlainValue) → HasShape ty w → leaf_slot ty s.rep w ≡ s → ⊥)
-LeafRefused id n ty s (join.NotNull d) = (id ≡ d) × (n ≡ false) × (s.state ≡ state.Null 0)
+LeafRefused id n ty s (join.NotNull d) = (id ≡ d) × (n ≡ false) × (s.state ≡ state.Null 0) × (s.value ≡ nothing)
 LeafRefused id n ty s (join.NotText d) = (id ≡ d) × (ty ≡ text) × (s.state ≡ state.Here) × ((t : List ℕ) × (s.value ≡ bytes t) × (IsUtf8 t → ⊥))
 LeafRefused id n ty s join.Memory = ⊤
 

@@ -3,10 +3,10 @@ use Rattle.std.specs.Prelude.{◌≡◌, ◌≢◌, ℕ, ◌+◌, ◌⊎◌, Lis
 use Rattle.lan_bytes.specs.Placed.{Placed, part_of}
 use Rattle.lan_arrow.specs.declared.fault.ArrowFault.{ArrowFault}
 use Rattle.lan_arrow.specs.declared.fault.ArrowFault.TheVariants.{Batch, Compressed, Nulls}
-use Rattle.lan_arrow.specs.Flat.{four_at}
+use Rattle.lan_arrow.specs.Flat.{four_at, Holds, HasTable}
 use Rattle.lan_arrow.specs.Footer.{root_of}
 use Rattle.lan_arrow.specs.Broken.{FieldPast, TableLacks, VectorLacks}
-use Rattle.lan_arrow.specs.BrokenFooter.{RootBroken}
+use Rattle.lan_arrow.specs.BrokenFooter.{HasRoot, RootBroken}
 use Rattle.lan_arrow.specs.Batches.{header_of, kind_of, IsCompressed, HasNulls, HasRows, BlockLiesAt, message_of, body_at, offset_at}
 
 -- a table, vector or field of a RecordBatch passes the buffer, or it lacks one that is needed
@@ -14,11 +14,20 @@ unfoldable pub BatchBroken : Placed → ℕ → ArrowFault → Type 0
 BatchBroken buffer at e =
     FieldPast buffer at 0 8 e ⊎ VectorLacks buffer at 1 16 e ⊎ VectorLacks buffer at 2 16 e
 
+-- the header of a message is a RecordBatch
+pub record HasBatch (message : List ℕ) : Type 0 where
+  pub root : HasRoot message
+  pub kind_holds : Holds message (root_of message) 1 1
+  pub kind : kind_of message ≡ 3
+  pub header : HasTable message (root_of message) 2
+
 -- the same of a message, whose header is read where it is a RecordBatch
 unfoldable pub MessageBroken : Placed → ArrowFault → Type 0
 MessageBroken message e =
-    RootBroken message e ⊎ FieldPast message (root_of message.bytes) 1 1 e ⊎ TableLacks message (root_of message.bytes) 2 e
-    ⊎ ((kind_of message.bytes ≡ 3) × BatchBroken message (header_of message.bytes) e)
+    RootBroken message e
+    ⊎ (HasRoot message.bytes × FieldPast message (root_of message.bytes) 1 1 e)
+    ⊎ (HasRoot message.bytes × TableLacks message (root_of message.bytes) 2 e)
+    ⊎ (HasBatch message.bytes × BatchBroken message (header_of message.bytes) e)
 
 -- the message of the i-th block, with its place in the object
 unfoldable pub message_in : Placed → List ℕ → ℕ → Placed

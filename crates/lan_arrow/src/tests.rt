@@ -19,6 +19,36 @@ fn fault_after(alloc: Global, changes: [(usize, u8); 2]) -> Result<Option<ArrowF
     Ok(read_deletions(alloc, View::new(0, file.as_slice()), 6, 2).err())
 }
 
+// A byte of the file of the rows 0 and 2 by which a part of a table passes its buffer or a needed one is absent, and the
+// place of that part.
+fn broken(case: u32) -> (usize, u8, u64) {
+    match case {
+        0 => (302, 0, 304),
+        1 => (300, 0xff, 559),
+        2 => (356, 0xff, 615),
+        3 => (367, 0xff, 4_278_190_448),
+        4 => (372, 0xff, 627),
+        5 => (384, 0xff, 647),
+        6 => (386, 0, 392),
+        7 => (432, 0xff, 691),
+        8 => (434, 0xff, 691),
+        9 => (390, 0xff, 647),
+        10 => (427, 0x40, 424),
+        11 => (154, 0xff, 415),
+        12 => (156, 0, 160),
+        13 => (167, 0xff, 4_278_190_272),
+        14 => (184, 0xff, 447),
+        15 => (186, 0, 192),
+        16 => (215, 0x40, 212),
+        17 => (211, 0xff, 4_278_190_316),
+        18 => (188, 0, 192),
+        19 => (239, 0x40, 236),
+        20 => (395, 0x7f, 392),
+        21 => (439, 0x7f, 436),
+        _ => (363, 0x7f, 360),
+    }
+}
+
 #[test]
 fn rows_are_written(rt: HostRuntime) -> Result<(), Fail> {
     let file = write_deletions(rt.alloc(), &[0, 2])?;
@@ -117,6 +147,19 @@ fn batches_and_rows_are_refused(rt: HostRuntime) -> Result<(), Fail> {
         ([(6, 7), (168, 99)], None),
     ] {
         assert_eq!(rt; fault_after(rt.alloc(), changes)?, fault, "{changes:?}");
+    }
+    Ok(())
+}
+
+#[test]
+fn each_part_of_a_table_is_looked_at(rt: HostRuntime) -> Result<(), Fail> {
+    for case in 0..23 {
+        let (place, byte, at) = broken(case);
+        assert_eq!(rt;
+            fault_after(rt.alloc(), [(place, byte), NO_CHANGE])?,
+            Some(ArrowFault::Table(at)),
+            "case {case}"
+        );
     }
     Ok(())
 }

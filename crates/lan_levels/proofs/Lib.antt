@@ -25,3 +25,4 @@ pub mod Assembled
 pub mod StateNumbers
 pub mod KeptSlots
 pub mod LayerCodes
+pub mod Chosen

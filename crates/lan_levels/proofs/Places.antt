@@ -10,7 +10,7 @@ use Rattle.lan_levels.specs.declared.slot.SlotRun.{SlotRun}
 use Rattle.lan_levels.specs.PlainSlots.{PlainSlot, plain_slot, plain_slots}
 use Rattle.lan_levels.specs.BadSlots.{slots_at}
 use Rattle.lan_levels.specs.Taken.{left_at, Step}
-use Rattle.lan_levels.proofs.TakenItems.{less_or_not}
+use Rattle.lan_levels.proofs.Chosen.{less_or_not}
 
 drop_nothing : (n : ℕ) → drop {A = PlainSlot} n [] ≡ []
 drop_nothing zero = refl

@@ -1,6 +1,6 @@
 -- Fields of at most sixteen layers.
-use Rattle.std.proofs.Common.{ℕ, ◌+◌, ◌<◌, ◌≤◌, List, [], ◌∷◌, ◌++◌, length, All, arith}
-use Rattle.std.proofs.lemmas.List.Elements.{All-nil, All-cons, All-head, All-tail}
+use Rattle.std.proofs.Common.{ℕ, ◌+◌, ◌<◌, ◌≤◌, [], length, All, arith}
+use Rattle.std.proofs.lemmas.List.Elements.{All-head}
 use Rattle.lan_model.specs.Plain.{primitive, vector, text, bytes, list, struct, PlainField, field, PlainFields, no_fields, one_field}
 use Rattle.lan_model.specs.Table.{IsField, AreFields, names_of, depths_of, all_depths}
 use Rattle.lan_levels.specs.Taken.{IsShallow, AreShallow}

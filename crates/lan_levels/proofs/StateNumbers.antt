@@ -3,7 +3,7 @@ use Rattle.std.proofs.Common.{◌≡◌, ℕ, zero, suc, ◌+◌, ◌<◌, ◌�
 use Rattle.std.proofs.lemmas.List.{drop_more, drop_all}
 use Rattle.lan_levels.specs.declared.slot.State.{State}
 use Rattle.lan_levels.specs.Codes.{code_states, states_from}
-use Rattle.lan_levels.proofs.TakenItems.{less_or_not}
+use Rattle.lan_levels.proofs.Chosen.{less_or_not}
 
 get_front : (xs ys : List State) (n : ℕ) → n < length xs → slice_get (xs ++ ys) n ≡ slice_get xs n
 get_front [] ys n lt = absurd (omega arith)

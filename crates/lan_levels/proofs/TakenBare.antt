@@ -10,12 +10,13 @@ use Rattle.lan_levels.specs.declared.slot.State.TheVariants as state
 use Rattle.lan_levels.specs.declared.bare.Mark.TheVariants as mark
 use Rattle.lan_levels.specs.PlainSlots.{nothing, PlainSlot}
 use Rattle.lan_levels.specs.SlotsOf.{slots_of, slot}
-use Rattle.lan_levels.specs.EachLeaf.{leaf_count, leaf_count_of, EachLeaf, EachLeafOf, SomeLeaf, SomeLeafOf, first_depth}
+use Rattle.lan_levels.specs.EachLeaf.{leaf_count, leaf_count_of, EachLeaf, EachLeafOf, SomeLeaf, SomeLeafOf, IsClosed, first_depth}
 use Rattle.lan_levels.specs.Loosened.{loosened}
-use Rattle.lan_levels.specs.Taken.{Keeps, Step, Took, NoneBegins, HasNoShape, BeginsBelow, first_rep, layers_below, bare_state, bare_slot, TookBare, IsNotBare, TookEachBare, SomeIsNotBare, MarkIs, IsAlone}
+use Rattle.lan_levels.specs.Taken.{Keeps, Step, Took, NoneBeginsWith, HasNoShape, BeginsIn, first_rep, layers_below, bare_state, bare_slot, TookBare, IsNotBare, TookEachBare, SomeIsNotBare, MarkIs, IsAlone}
 use Rattle.lan_levels.proofs.Heads.{IsInside, inner_depth}
 use Rattle.lan_levels.proofs.HeadSays.{HeadSays, Says, head_says}
 use Rattle.lan_levels.proofs.Reps.{layers_below-is}
+use Rattle.lan_levels.proofs.Chosen.{closed_first}
 use Rattle.lan_levels.proofs.EachLeaf.{EachLeaf-map, EachLeaf-map2, EachLeafOf-map, SomeLeaf-map, SomeLeafOf-map, SomeLeaf-self, SomeLeaf-not, EachLeaf-first}
 
 pub Keeps-none : (i past : ℕ) (old new : ℕ → List PlainSlot) → old ≡ new → Keeps i past old new
@@ -164,13 +165,13 @@ taken_bare f empty k i old new each took =
     (λ d j ty path a b e x y. y ∙ sym (ap (λ (s : List PlainSlot). s ++ new j) x)) each took.taken
 
 only_bare : (f : PlainField ℕ) (empty : Bool) (k i : ℕ) (old new : ℕ → List PlainSlot) → TookBare f empty 0 k i old new
-    → (end : ℕ) (w : PlainValue) (rest : PlainType ℕ → List Layer → List PlainSlot) → Fits (loosened f) w → EachLeaf f i (BeginsBelow end k w old rest)
-    → EachLeaf f i (λ d j ty path. j < end → new j ≡ rest ty path)
-only_bare f empty k i old new took end w rest hw h =
+    → (chosen : ℕ → Bool) (w : PlainValue) (rest : PlainType ℕ → List Layer → List PlainSlot) → IsClosed f i chosen → Fits (loosened f) w → EachLeaf f i (BeginsIn chosen k w old rest)
+    → EachLeaf f i (λ d j ty path. chosen j ≡ true → new j ≡ rest ty path)
+only_bare f empty k i old new took chosen w rest closed hw h =
     let both : EachLeaf f i (λ d j ty path. SaysAt w k d j ty path × Bare empty 0 k old new d j ty path) =
     EachLeaf-map2 f i (SaysAt w k) (Bare empty 0 k old new) (λ d j ty path. SaysAt w k d j ty path × Bare empty 0 k old new d j ty path) (λ d j ty path a b e x y. (x, y))
     (says_at w f k i hw) took.taken in
-    EachLeaf-map2 f i (λ d j ty path. SaysAt w k d j ty path × Bare empty 0 k old new d j ty path) (BeginsBelow end k w old rest) (λ d j ty path. j < end → new j ≡ rest ty path)
+    EachLeaf-map2 f i (λ d j ty path. SaysAt w k d j ty path × Bare empty 0 k old new d j ty path) (BeginsIn chosen k w old rest) (λ d j ty path. chosen j ≡ true → new j ≡ rest ty path)
     (λ d j ty path a b e x y lt. bare_left empty w k ty path (old j) (new j) (rest ty path) x.0.0 x.0.1 x.1 (y lt).0)
     both h
 
@@ -201,11 +202,11 @@ inner_is (l ∷ path) depth h = omega arith
 abbrev FirstSays : PlainField ℕ → PlainValue → ℕ → ℕ → (ℕ → List PlainSlot) → Type 0
 FirstSays f w k i old = (s : PlainSlot) × (rest : List PlainSlot) × (more : List PlainSlot) × (old i ≡ s ∷ more) × Says w (first_depth f) s.state rest
 
-pub first_says : (f : PlainField ℕ) (k i end : ℕ) (old : ℕ → List PlainSlot) (w : PlainValue) (rest : PlainType ℕ → List Layer → List PlainSlot)
-    → IsField f → i < end → Fits (loosened f) w → EachLeaf f i (BeginsBelow end k w old rest) → FirstSays f w k i old
-first_says f k i end old w rest ok lt hw h =
-    let first = EachLeaf-first f i (λ d j ty path. SaysAt w k d j ty path × BeginsBelow end k w old rest d j ty path) ok
-    (EachLeaf-map2 f i (SaysAt w k) (BeginsBelow end k w old rest) (λ d j ty path. SaysAt w k d j ty path × BeginsBelow end k w old rest d j ty path) (λ d j ty path a b e x y. (x, y))
+pub first_says : (f : PlainField ℕ) (k i : ℕ) (chosen : ℕ → Bool) (old : ℕ → List PlainSlot) (w : PlainValue) (rest : PlainType ℕ → List Layer → List PlainSlot)
+    → IsField f → chosen i ≡ true → Fits (loosened f) w → EachLeaf f i (BeginsIn chosen k w old rest) → FirstSays f w k i old
+first_says f k i chosen old w rest ok lt hw h =
+    let first = EachLeaf-first f i (λ d j ty path. SaysAt w k d j ty path × BeginsIn chosen k w old rest d j ty path) ok
+    (EachLeaf-map2 f i (SaysAt w k) (BeginsIn chosen k w old rest) (λ d j ty path. SaysAt w k d j ty path × BeginsIn chosen k w old rest d j ty path) (λ d j ty path a b e x y. (x, y))
     (says_at w f k i hw) h) in
     let says = first.holds.0.1 in
     let depth : inner_depth first.path ≡ first_depth f = inner_is first.path (first_depth f) first.depth in (
@@ -217,33 +218,33 @@ first_says f k i end old w rest ok lt hw h =
     )
 
 -- the first leaf says which bare value it is
-bare_says : (f : PlainField ℕ) (empty : Bool) (k i end : ℕ) (old : ℕ → List PlainSlot) (w : PlainValue) (rest : PlainType ℕ → List Layer → List PlainSlot)
-    → IsField f → i < end → Fits (loosened f) w → EachLeaf f i (BeginsBelow end k w old rest)
+bare_says : (f : PlainField ℕ) (empty : Bool) (k i : ℕ) (chosen : ℕ → Bool) (old : ℕ → List PlainSlot) (w : PlainValue) (rest : PlainType ℕ → List Layer → List PlainSlot)
+    → IsField f → chosen i ≡ true → Fits (loosened f) w → EachLeaf f i (BeginsIn chosen k w old rest)
     → (s : PlainSlot) (more : List PlainSlot) → old i ≡ s ∷ more → s.state ≡ bare_state empty (first_depth f) → w ≡ bare_value empty
-bare_says f empty k i end old w rest ok lt hw h s more e is =
-    let first = first_says f k i end old w rest ok lt hw h in
+bare_says f empty k i chosen old w rest ok lt hw h s more e is =
+    let first = first_says f k i chosen old w rest ok lt hw h in
     let one : first.0 ∷ first.2 ≡ s ∷ more = sym first.3 ∙ e in
     let same : first.0 ≡ s = cc in
     let (value, none) = is_bare empty w (first_depth f) first.0.state first.1 first.4 (ap (λ (x : PlainSlot). x.state) same ∙ is) in
     value
 
 -- the slots of the bare value, with what the value begins
-abbrev BareBegins : Bool → ℕ → ℕ → PlainValue → (ℕ → List PlainSlot) → (PlainType ℕ → List Layer → List PlainSlot) → ℕ → ℕ → PlainType ℕ → List Layer → Type 0
-BareBegins empty k end w old rest d j ty path = BareSlots empty k d j ty path × BeginsBelow end k w old rest d j ty path
+abbrev BareBegins : Bool → ℕ → (ℕ → Bool) → PlainValue → (ℕ → List PlainSlot) → (PlainType ℕ → List Layer → List PlainSlot) → ℕ → ℕ → PlainType ℕ → List Layer → Type 0
+BareBegins empty k chosen w old rest d j ty path = BareSlots empty k d j ty path × BeginsIn chosen k w old rest d j ty path
 
 -- at one leaf something else stands than the slot of the bare value
-clash : (f : PlainField ℕ) (empty : Bool) (k i id at : ℕ) (old : ℕ → List PlainSlot) (w : PlainValue) (rest : PlainType ℕ → List Layer → List PlainSlot)
-    → w ≡ bare_value empty → EachLeaf f i (BareSlots empty k) → EachLeaf f i (BeginsBelow (at + 1) k w old rest)
+clash : (f : PlainField ℕ) (empty : Bool) (k i id at : ℕ) (chosen : ℕ → Bool) (old : ℕ → List PlainSlot) (w : PlainValue) (rest : PlainType ℕ → List Layer → List PlainSlot)
+    → chosen at ≡ true → w ≡ bare_value empty → EachLeaf f i (BareSlots empty k) → EachLeaf f i (BeginsIn chosen k w old rest)
     → SomeLeaf f i (λ d j ty path. NotBare empty 0 k old id d j ty path × (j ≡ at)) → ⊥
-clash f empty k i id at old w rest value each begins some =
-    SomeLeaf-not f i (λ d j ty path. NotBare empty 0 k old id d j ty path × (j ≡ at)) (BareBegins empty k (at + 1) w old rest)
+clash f empty k i id at chosen old w rest there value each begins some =
+    SomeLeaf-not f i (λ d j ty path. NotBare empty 0 k old id d j ty path × (j ≡ at)) (BareBegins empty k chosen w old rest)
     (λ d j ty path a b e p q.
     let same : j ≡ at = p.1 in
-    let lt : j < at + 1 = omega arith in
+    let lt : chosen j ≡ true = ap chosen same ∙ there in
     p.0.1 (rest ty path)
     ((q.1 lt).0 ∙ ap (λ (v : PlainValue). slots_of ty path (first_rep k path) v ++ rest ty path) value ∙ ap (λ (s : List PlainSlot). s ++ rest ty path) q.0))
     some
-    (EachLeaf-map2 f i (BareSlots empty k) (BeginsBelow (at + 1) k w old rest) (BareBegins empty k (at + 1) w old rest) (λ d j ty path a b e x y. (x, y)) each begins)
+    (EachLeaf-map2 f i (BareSlots empty k) (BeginsIn chosen k w old rest) (BareBegins empty k chosen w old rest) (λ d j ty path a b e x y. (x, y)) each begins)
 
 -- the first leaf says that the value is bare, and in a leaf something else stands
 no_bare : (f : PlainField ℕ) (empty : Bool) (k i id : ℕ) (old : ℕ → List PlainSlot) → IsField f → EachLeaf f i (BareSlots empty k)
@@ -251,11 +252,11 @@ no_bare : (f : PlainField ℕ) (empty : Bool) (k i id : ℕ) (old : ℕ → List
     → IsNotBare f empty 0 k i old id → HasNoShape f k i old id
 no_bare f empty k i id old ok each s more e is h =
     SomeLeaf-map f i (λ d j ty path. NotBare empty 0 k old id d j ty path × SomeLeaf f i (λ d' j' ty' path'. NotBare empty 0 k old id d' j' ty' path' × (j' ≡ j)))
-    (λ d j ty path. (d ≡ id) × NoneBegins f k i old (j + 1))
+    (λ d j ty path. (d ≡ id) × NoneBeginsWith f k i old j)
     (λ d j ty path a b some x. (
       x.0.0,
-      λ w rest hw begins.
-          clash f empty k i id j old w rest (bare_says f empty k i (j + 1) old w rest ok (omega arith) hw begins s more e is) each begins x.1,
+      λ chosen closed there w rest hw begins.
+          clash f empty k i id j chosen old w rest there (bare_says f empty k i chosen old w rest ok (closed_first f i j chosen closed a b there) hw begins s more e is) each begins x.1,
     ))
     (SomeLeaf-self f i (NotBare empty 0 k old id) h)
 

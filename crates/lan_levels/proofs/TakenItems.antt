@@ -1,5 +1,5 @@
 -- The items of a list are taken one after another, or no list has these slots.
-use Rattle.std.proofs.Common.{◌≡◌, ℕ, zero, suc, ◌+◌, ◌<◌, ◌≤◌, ◌⊎◌, inl, inr, Bool, List, [], ◌∷◌, ◌++◌, refl, ap, sym, subst, ◌∙◌, append_assoc, arith}
+use Rattle.std.proofs.Common.{◌≡◌, ℕ, ◌+◌, ◌≤◌, ◌⊎◌, inl, inr, Bool, true, false, true≢false, List, [], ◌∷◌, ◌++◌, refl, ap, sym, subst, ◌∙◌, append_assoc, arith}
 use Rattle.lan_model.specs.declared.tree.Layer.{Layer}
 use Rattle.lan_model.specs.declared.tree.Layer.TheVariants as layer
 use Rattle.lan_model.specs.Plain.{PlainType, list, PlainField, field, PlainValue, null, bits, raw, items, group, PlainValues, no_values, one_value}
@@ -8,11 +8,12 @@ use Rattle.lan_model.specs.Table.{IsField}
 use Rattle.lan_levels.specs.declared.bare.Mark.TheVariants as mark
 use Rattle.lan_levels.specs.PlainSlots.{PlainSlot}
 use Rattle.lan_levels.specs.SlotsOf.{slots_of, flat, lists_in}
-use Rattle.lan_levels.specs.EachLeaf.{leaf_count, EachLeaf, first_depth, first_lists}
+use Rattle.lan_levels.specs.EachLeaf.{leaf_count, EachLeaf, IsClosed, first_depth, first_lists}
 use Rattle.lan_levels.specs.Loosened.{loosened}
-use Rattle.lan_levels.specs.Taken.{IsLater, Keeps, Took, NoneBegins, HasNoShape, BeginsBelow, first_rep, MarkIs, Continues, TookLater, TookItems}
+use Rattle.lan_levels.specs.Taken.{IsLater, Keeps, Took, NoneBegins, NoneBeginsWith, HasNoShape, BeginsIn, first_rep, MarkIs, Continues, TookLater, TookItems}
 use Rattle.lan_levels.proofs.Heads.{LaterAt, later}
 use Rattle.lan_levels.proofs.Reps.{same_rep}
+use Rattle.lan_levels.proofs.Chosen.{true_or_not, closed_first}
 use Rattle.lan_levels.proofs.EachLeaf.{EachLeaf-map, EachLeaf-map2, EachLeaf-all, EachLeaf-path, EachLeaf-first, SomeLeaf-map}
 use Rattle.lan_levels.proofs.TakenBare.{Keeps-none, says_at, SaysAt, first_says}
 
@@ -20,10 +21,10 @@ use Rattle.lan_levels.proofs.TakenBare.{Keeps-none, says_at, SaysAt, first_says}
 abbrev Later : PlainValues → (PlainType ℕ → List Layer → List PlainSlot) → PlainType ℕ → List Layer → List PlainSlot
 Later vs rest ty path = flat (slots_of ty path (lists_in path)) vs ++ rest ty path
 
--- items begin what is left at a place below `end`, and what follows them begins no item of theirs
-abbrev pub ItemsBegin : ℕ → PlainValues → (ℕ → List PlainSlot) → (PlainType ℕ → List Layer → List PlainSlot) → ℕ → ℕ → PlainType ℕ → List Layer → Type 0
-ItemsBegin end vs old rest d j ty path =
-    j < end → (old j ≡ flat (slots_of ty path (lists_in path)) vs ++ rest ty path) × IsLater (lists_in path + 1) (rest ty path)
+-- items begin what is left at a chosen place, and what follows them begins no item of theirs
+abbrev pub ItemsBegin : (ℕ → Bool) → PlainValues → (ℕ → List PlainSlot) → (PlainType ℕ → List Layer → List PlainSlot) → ℕ → ℕ → PlainType ℕ → List Layer → Type 0
+ItemsBegin chosen vs old rest d j ty path =
+    chosen j ≡ true → (old j ≡ flat (slots_of ty path (lists_in path)) vs ++ rest ty path) × IsLater (lists_in path + 1) (rest ty path)
 
 IsLater-less : (j : ℕ) (xs : List PlainSlot) → IsLater (j + 1) xs → IsLater j xs
 IsLater-less j [] h = tt
@@ -34,10 +35,10 @@ IsLater-append j [] ys p q = q
 IsLater-append j (x ∷ xs) ys p q = p
 
 -- the next item begins, and those after it follow it
-next_begins : (item : PlainField ℕ) (i end : ℕ) (old : ℕ → List PlainSlot) (w : PlainValue) (ws : PlainValues) (rest : PlainType ℕ → List Layer → List PlainSlot)
-    → AllFit (loosened item) ws → EachLeaf item i (ItemsBegin end (one_value w ws) old rest) → EachLeaf item i (BeginsBelow end 0 w old (Later ws rest))
-next_begins item i end old w ws rest fit h =
-    EachLeaf-map2 item i (λ d j ty path. LaterAt ws ty path) (ItemsBegin end (one_value w ws) old rest) (BeginsBelow end 0 w old (Later ws rest))
+next_begins : (item : PlainField ℕ) (i : ℕ) (chosen : ℕ → Bool) (old : ℕ → List PlainSlot) (w : PlainValue) (ws : PlainValues) (rest : PlainType ℕ → List Layer → List PlainSlot)
+    → AllFit (loosened item) ws → EachLeaf item i (ItemsBegin chosen (one_value w ws) old rest) → EachLeaf item i (BeginsIn chosen 0 w old (Later ws rest))
+next_begins item i chosen old w ws rest fit h =
+    EachLeaf-map2 item i (λ d j ty path. LaterAt ws ty path) (ItemsBegin chosen (one_value w ws) old rest) (BeginsIn chosen 0 w old (Later ws rest))
     (λ d j ty path a b e x y lt. (
       (y lt).0
           ∙ append_assoc (slots_of ty path (lists_in path) w) (flat (slots_of ty path (lists_in path)) ws) (rest ty path)
@@ -47,10 +48,10 @@ next_begins item i end old w ws rest fit h =
     (EachLeaf-path item i (LaterAt ws) (later ws item fit)) h
 
 -- nothing begins where a further item begins
-not_ended : (item : PlainField ℕ) (i end : ℕ) (old : ℕ → List PlainSlot) (rest : PlainType ℕ → List Layer → List PlainSlot)
-    → IsField item → i < end → Continues item i old → EachLeaf item i (ItemsBegin end no_values old rest) → ⊥
-not_ended item i end old rest ok lt more h =
-    let first = EachLeaf-first item i (ItemsBegin end no_values old rest) ok h in
+not_ended : (item : PlainField ℕ) (i : ℕ) (chosen : ℕ → Bool) (old : ℕ → List PlainSlot) (rest : PlainType ℕ → List Layer → List PlainSlot)
+    → IsField item → chosen i ≡ true → Continues item i old → EachLeaf item i (ItemsBegin chosen no_values old rest) → ⊥
+not_ended item i chosen old rest ok lt more h =
+    let first = EachLeaf-first item i (ItemsBegin chosen no_values old rest) ok h in
     let is : more.0 ∷ more.1 ≡ rest first.ty first.path = sym more.2 ∙ (first.holds lt).0 in
     let late : IsLater (lists_in first.path + 1) (more.0 ∷ more.1) = subst (IsLater (lists_in first.path + 1)) (sym is) (first.holds lt).1 in
     let le : lists_in first.path + 1 ≤ more.0.rep = late in
@@ -59,11 +60,11 @@ not_ended item i end old rest ok lt more h =
     omega arith
 
 -- where a further item begins, the first leaf says so
-continues : (item : PlainField ℕ) (i end : ℕ) (old : ℕ → List PlainSlot) (w : PlainValue) (rest : PlainType ℕ → List Layer → List PlainSlot)
-    → IsField item → i < end → Fits (loosened item) w → EachLeaf item i (BeginsBelow end 0 w old rest) → Continues item i old
-continues item i end old w rest ok lt hw h =
-    let first = EachLeaf-first item i (λ d j ty path. SaysAt w 0 d j ty path × BeginsBelow end 0 w old rest d j ty path) ok
-    (EachLeaf-map2 item i (SaysAt w 0) (BeginsBelow end 0 w old rest) (λ d j ty path. SaysAt w 0 d j ty path × BeginsBelow end 0 w old rest d j ty path) (λ d j ty path a b e x y. (x, y))
+continues : (item : PlainField ℕ) (i : ℕ) (chosen : ℕ → Bool) (old : ℕ → List PlainSlot) (w : PlainValue) (rest : PlainType ℕ → List Layer → List PlainSlot)
+    → IsField item → chosen i ≡ true → Fits (loosened item) w → EachLeaf item i (BeginsIn chosen 0 w old rest) → Continues item i old
+continues item i chosen old w rest ok lt hw h =
+    let first = EachLeaf-first item i (λ d j ty path. SaysAt w 0 d j ty path × BeginsIn chosen 0 w old rest d j ty path) ok
+    (EachLeaf-map2 item i (SaysAt w 0) (BeginsIn chosen 0 w old rest) (λ d j ty path. SaysAt w 0 d j ty path × BeginsIn chosen 0 w old rest d j ty path) (λ d j ty path a b e x y. (x, y))
     (says_at w item 0 i hw) h) in
     let says = first.holds.0.1 in (
       says.head,
@@ -73,33 +74,33 @@ continues item i end old w rest ok lt hw h =
     )
 
 -- what is left of items that begin there, after some were taken
-pub record Remaining (item : PlainField ℕ) (i end : ℕ) (new : ℕ → List PlainSlot) (rest : PlainType ℕ → List Layer → List PlainSlot) : Type 0 where
+pub record Remaining (item : PlainField ℕ) (i : ℕ) (chosen : ℕ → Bool) (new : ℕ → List PlainSlot) (rest : PlainType ℕ → List Layer → List PlainSlot) : Type 0 where
   pub some : PlainValues
   pub fit : AllFit (loosened item) some
-  pub begin : EachLeaf item i (ItemsBegin end some new rest)
+  pub begin : EachLeaf item i (ItemsBegin chosen some new rest)
 
-move : (item : PlainField ℕ) (i end : ℕ) (old new : ℕ → List PlainSlot) (ws : PlainValues) (rest : PlainType ℕ → List Layer → List PlainSlot)
-    → EachLeaf item i (λ d j ty path. j < end → new j ≡ Later ws rest ty path) → EachLeaf item i (λ d j ty path. j < end → IsLater (lists_in path + 1) (rest ty path))
-    → EachLeaf item i (ItemsBegin end ws new rest)
-move item i end old new ws rest p q =
-    EachLeaf-map2 item i (λ d j ty path. j < end → new j ≡ Later ws rest ty path) (λ d j ty path. j < end → IsLater (lists_in path + 1) (rest ty path)) (ItemsBegin end ws new rest)
+move : (item : PlainField ℕ) (i : ℕ) (chosen : ℕ → Bool) (old new : ℕ → List PlainSlot) (ws : PlainValues) (rest : PlainType ℕ → List Layer → List PlainSlot)
+    → EachLeaf item i (λ d j ty path. chosen j ≡ true → new j ≡ Later ws rest ty path) → EachLeaf item i (λ d j ty path. chosen j ≡ true → IsLater (lists_in path + 1) (rest ty path))
+    → EachLeaf item i (ItemsBegin chosen ws new rest)
+move item i chosen old new ws rest p q =
+    EachLeaf-map2 item i (λ d j ty path. chosen j ≡ true → new j ≡ Later ws rest ty path) (λ d j ty path. chosen j ≡ true → IsLater (lists_in path + 1) (rest ty path)) (ItemsBegin chosen ws new rest)
     (λ d j ty path a b e x y lt. (x lt, y lt)) p q
 
-ends_later : (item : PlainField ℕ) (i end : ℕ) (old : ℕ → List PlainSlot) (ws : PlainValues) (rest : PlainType ℕ → List Layer → List PlainSlot)
-    → EachLeaf item i (ItemsBegin end ws old rest) → EachLeaf item i (λ d j ty path. j < end → IsLater (lists_in path + 1) (rest ty path))
-ends_later item i end old ws rest h =
-    EachLeaf-map item i (ItemsBegin end ws old rest) (λ d j ty path. j < end → IsLater (lists_in path + 1) (rest ty path)) (λ d j ty path a b e x lt. (x lt).1) h
+ends_later : (item : PlainField ℕ) (i : ℕ) (chosen : ℕ → Bool) (old : ℕ → List PlainSlot) (ws : PlainValues) (rest : PlainType ℕ → List Layer → List PlainSlot)
+    → EachLeaf item i (ItemsBegin chosen ws old rest) → EachLeaf item i (λ d j ty path. chosen j ≡ true → IsLater (lists_in path + 1) (rest ty path))
+ends_later item i chosen old ws rest h =
+    EachLeaf-map item i (ItemsBegin chosen ws old rest) (λ d j ty path. chosen j ≡ true → IsLater (lists_in path + 1) (rest ty path)) (λ d j ty path a b e x lt. (x lt).1) h
 
 pub later_only : (item : PlainField ℕ) (i : ℕ) (old new : ℕ → List PlainSlot) (vs : PlainValues) → IsField item → TookLater item i old new vs
-    → (end : ℕ) (ws : PlainValues) (rest : PlainType ℕ → List Layer → List PlainSlot) → i < end → AllFit (loosened item) ws → EachLeaf item i (ItemsBegin end ws old rest)
-    → Remaining item i end new rest
-later_only item i old new no_values ok took end ws rest lt fit h =
-    record { some = ws; fit = fit; begin = subst (λ (now : ℕ → List PlainSlot). EachLeaf item i (ItemsBegin end ws now rest)) took h }
-later_only item i old new (one_value v vs) ok took end no_values rest lt fit h = absurd (not_ended item i end old rest ok lt took.0 h)
-later_only item i old new (one_value v vs) ok took end (one_value w ws) rest lt fit h =
+    → (chosen : ℕ → Bool) (ws : PlainValues) (rest : PlainType ℕ → List Layer → List PlainSlot) → chosen i ≡ true → IsClosed item i chosen → AllFit (loosened item) ws → EachLeaf item i (ItemsBegin chosen ws old rest)
+    → Remaining item i chosen new rest
+later_only item i old new no_values ok took chosen ws rest lt closed fit h =
+    record { some = ws; fit = fit; begin = subst (λ (now : ℕ → List PlainSlot). EachLeaf item i (ItemsBegin chosen ws now rest)) took h }
+later_only item i old new (one_value v vs) ok took chosen no_values rest lt closed fit h = absurd (not_ended item i chosen old rest ok lt took.0 h)
+later_only item i old new (one_value v vs) ok took chosen (one_value w ws) rest lt closed fit h =
     let now = took.1.0 in
-    later_only item i now new vs ok took.1.2 end ws rest lt fit.1
-    (move item i end old now ws rest (took.1.1.only end w (Later ws rest) fit.0 (next_begins item i end old w ws rest fit.1 h)) (ends_later item i end old (one_value w ws) rest h))
+    later_only item i now new vs ok took.1.2 chosen ws rest lt closed fit.1
+    (move item i chosen old now ws rest (took.1.1.only chosen w (Later ws rest) closed fit.0 (next_begins item i chosen old w ws rest fit.1 h)) (ends_later item i chosen old (one_value w ws) rest h))
 
 pub later_fits : (item : PlainField ℕ) (i : ℕ) (old new : ℕ → List PlainSlot) (vs : PlainValues) → TookLater item i old new vs → AllFit item vs
 later_fits item i old new no_values took = tt
@@ -129,81 +130,76 @@ later_taken item i old new (one_value v vs) took =
     took.1.1.taken (later_taken item i now new vs took.1.2)
 
 -- a list with items that begins there
-record HasItems (item : PlainField ℕ) (k i end : ℕ) (old : ℕ → List PlainSlot) (w : PlainValue) (rest : PlainType ℕ → List Layer → List PlainSlot) : Type 0 where
+record HasItems (item : PlainField ℕ) (k i : ℕ) (chosen : ℕ → Bool) (old : ℕ → List PlainSlot) (w : PlainValue) (rest : PlainType ℕ → List Layer → List PlainSlot) : Type 0 where
   first : PlainValue
   more : PlainValues
   fit : Fits (loosened item) first × AllFit (loosened item) more
-  begins : EachLeaf item i (BeginsBelow end (k + 1) first old (Later more rest))
-  ends : EachLeaf item i (λ d j ty path. j < end → IsLater (lists_in path + 1) (rest ty path))
+  begins : EachLeaf item i (BeginsIn chosen (k + 1) first old (Later more rest))
+  ends : EachLeaf item i (λ d j ty path. chosen j ≡ true → IsLater (lists_in path + 1) (rest ty path))
 
 abbrev inner_rest : Bool → (PlainType ℕ → List Layer → List PlainSlot) → PlainType ℕ → List Layer → List PlainSlot
 inner_rest n rest ty path = rest ty (layer.List n ∷ path)
 
-begins_items : (item : PlainField ℕ) (n : Bool) (k i end : ℕ) (old : ℕ → List PlainSlot) (v : PlainValue) (vs : PlainValues) (rest : PlainType ℕ → List Layer → List PlainSlot)
+begins_items : (item : PlainField ℕ) (n : Bool) (k i : ℕ) (chosen : ℕ → Bool) (old : ℕ → List PlainSlot) (v : PlainValue) (vs : PlainValues) (rest : PlainType ℕ → List Layer → List PlainSlot)
     → Fits (loosened item) v × AllFit (loosened item) vs
-    → EachLeaf item i (λ d j ty path. BeginsBelow end k (items (one_value v vs)) old rest d j ty (layer.List n ∷ path)) → HasItems item k i end old (items (one_value v vs)) (inner_rest n rest)
-begins_items item n k i end old v vs rest fit h = record {
+    → EachLeaf item i (λ d j ty path. BeginsIn chosen k (items (one_value v vs)) old rest d j ty (layer.List n ∷ path)) → HasItems item k i chosen old (items (one_value v vs)) (inner_rest n rest)
+begins_items item n k i chosen old v vs rest fit h = record {
   first = v;
   more = vs;
   fit = fit;
-  begins = EachLeaf-map2 item i (λ d j ty path. LaterAt vs ty path) (λ d j ty path. BeginsBelow end k (items (one_value v vs)) old rest d j ty (layer.List n ∷ path))
-      (BeginsBelow end (k + 1) v old (Later vs (inner_rest n rest)))
+  begins = EachLeaf-map2 item i (λ d j ty path. LaterAt vs ty path) (λ d j ty path. BeginsIn chosen k (items (one_value v vs)) old rest d j ty (layer.List n ∷ path))
+      (BeginsIn chosen (k + 1) v old (Later vs (inner_rest n rest)))
       (λ d j ty path a b e x y lt. (
         (y lt).0 ∙ append_assoc (slots_of ty path (first_rep (k + 1) path) v) (flat (slots_of ty path (lists_in path)) vs) (inner_rest n rest ty path),
         IsLater-append (lists_in path) (flat (slots_of ty path (lists_in path)) vs) (inner_rest n rest ty path) x.1 (IsLater-less (lists_in path) (inner_rest n rest ty path) (y lt).1),
       ))
       (EachLeaf-path item i (LaterAt vs) (later vs item fit.1)) h;
-  ends = EachLeaf-map item i (λ d j ty path. BeginsBelow end k (items (one_value v vs)) old rest d j ty (layer.List n ∷ path))
-      (λ d j ty path. j < end → IsLater (lists_in path + 1) (inner_rest n rest ty path)) (λ d j ty path a b e x lt. (x lt).1) h;
+  ends = EachLeaf-map item i (λ d j ty path. BeginsIn chosen k (items (one_value v vs)) old rest d j ty (layer.List n ∷ path))
+      (λ d j ty path. chosen j ≡ true → IsLater (lists_in path + 1) (inner_rest n rest ty path)) (λ d j ty path a b e x lt. (x lt).1) h;
 }
 
 -- where the first leaf says neither null nor empty, only a list with items begins
-has_items : (d : ℕ) (name : List ℕ) (n : Bool) (item : PlainField ℕ) (k i end : ℕ) (old : ℕ → List PlainSlot) (w : PlainValue) (rest : PlainType ℕ → List Layer → List PlainSlot)
-    → IsField item → MarkIs (first_depth item + 1) (old i) mark.Inside → i < end → Fits (loosened (field d name n (list item))) w
-    → EachLeaf (field d name n (list item)) i (BeginsBelow end k w old rest) → HasItems item k i end old w (inner_rest n rest)
-has_items d name n item k i end old null rest ok m lt fit h =
-    let first = first_says (field d name n (list item)) k i end old null rest ok lt fit h in
+has_items : (d : ℕ) (name : List ℕ) (n : Bool) (item : PlainField ℕ) (k i : ℕ) (chosen : ℕ → Bool) (old : ℕ → List PlainSlot) (w : PlainValue) (rest : PlainType ℕ → List Layer → List PlainSlot)
+    → IsField item → MarkIs (first_depth item + 1) (old i) mark.Inside → chosen i ≡ true → Fits (loosened (field d name n (list item))) w
+    → EachLeaf (field d name n (list item)) i (BeginsIn chosen k w old rest) → HasItems item k i chosen old w (inner_rest n rest)
+has_items d name n item k i chosen old null rest ok m lt fit h =
+    let first = first_says (field d name n (list item)) k i chosen old null rest ok lt fit h in
     absurd ((m first.0 first.2 first.3).0 first.4.0)
-has_items d name n item k i end old (bits b) rest ok m lt fit h = absurd fit
-has_items d name n item k i end old (raw s) rest ok m lt fit h = absurd fit
-has_items d name n item k i end old (items no_values) rest ok m lt fit h =
-    let first = first_says (field d name n (list item)) k i end old (items no_values) rest ok lt fit h in
+has_items d name n item k i chosen old (bits b) rest ok m lt fit h = absurd fit
+has_items d name n item k i chosen old (raw s) rest ok m lt fit h = absurd fit
+has_items d name n item k i chosen old (items no_values) rest ok m lt fit h =
+    let first = first_says (field d name n (list item)) k i chosen old (items no_values) rest ok lt fit h in
     absurd ((m first.0 first.2 first.3).1 first.4.0)
-has_items d name n item k i end old (items (one_value v vs)) rest ok m lt fit h = begins_items item n k i end old v vs rest fit h
-has_items d name n item k i end old (group vs) rest ok m lt fit h = absurd fit
+has_items d name n item k i chosen old (items (one_value v vs)) rest ok m lt fit h = begins_items item n k i chosen old v vs rest fit h
+has_items d name n item k i chosen old (group vs) rest ok m lt fit h = absurd fit
 
 -- what is left of a list that begins there, after items were taken
-items_only : (d : ℕ) (name : List ℕ) (n : Bool) (item : PlainField ℕ) (k i end : ℕ) (old new : ℕ → List PlainSlot) (vs : PlainValues) (w : PlainValue)
-    (rest : PlainType ℕ → List Layer → List PlainSlot) → IsField item → MarkIs (first_depth item + 1) (old i) mark.Inside → TookItems item k i old new vs → i < end
-    → Fits (loosened (field d name n (list item))) w → EachLeaf (field d name n (list item)) i (BeginsBelow end k w old rest) → Remaining item i end new (inner_rest n rest)
-items_only d name n item k i end old new vs w rest ok m took lt fit h =
-    let has = has_items d name n item k i end old w rest ok m lt fit h in
-    later_only item i took.now new took.more ok took.rest end has.more (inner_rest n rest) lt has.fit.1
-    (move item i end old took.now has.more (inner_rest n rest) (took.head.only end has.first (Later has.more (inner_rest n rest)) has.fit.0 has.begins) has.ends)
+items_only : (d : ℕ) (name : List ℕ) (n : Bool) (item : PlainField ℕ) (k i : ℕ) (chosen : ℕ → Bool) (old new : ℕ → List PlainSlot) (vs : PlainValues) (w : PlainValue)
+    (rest : PlainType ℕ → List Layer → List PlainSlot) → IsField item → MarkIs (first_depth item + 1) (old i) mark.Inside → TookItems item k i old new vs → chosen i ≡ true
+    → IsClosed item i chosen → Fits (loosened (field d name n (list item))) w → EachLeaf (field d name n (list item)) i (BeginsIn chosen k w old rest) → Remaining item i chosen new (inner_rest n rest)
+items_only d name n item k i chosen old new vs w rest ok m took lt closed fit h =
+    let has = has_items d name n item k i chosen old w rest ok m lt fit h in
+    later_only item i took.now new took.more ok took.rest chosen has.more (inner_rest n rest) lt closed has.fit.1
+    (move item i chosen old took.now has.more (inner_rest n rest) (took.head.only chosen has.first (Later has.more (inner_rest n rest)) closed has.fit.0 has.begins) has.ends)
 
-ended : (item : PlainField ℕ) (n : Bool) (i end : ℕ) (new : ℕ → List PlainSlot) (rest : PlainType ℕ → List Layer → List PlainSlot) (ws : PlainValues)
-    → IsField item → i < end → (Continues item i new → ⊥) → AllFit (loosened item) ws → EachLeaf item i (ItemsBegin end ws new (inner_rest n rest))
-    → EachLeaf item i (λ d j ty path. j < end → new j ≡ rest ty (layer.List n ∷ path))
-ended item n i end new rest no_values ok lt stop fit h =
-    EachLeaf-map item i (ItemsBegin end no_values new (inner_rest n rest)) (λ d j ty path. j < end → new j ≡ rest ty (layer.List n ∷ path)) (λ d j ty path a b e x less. (x less).0) h
-ended item n i end new rest (one_value w ws) ok lt stop fit h =
-    absurd (stop (continues item i end new w (Later ws (inner_rest n rest)) ok lt fit.0 (next_begins item i end new w ws (inner_rest n rest) fit.1 h)))
-
-pub less_or_not : (i end : ℕ) → (i < end) ⊎ (end ≤ i)
-less_or_not i zero = inr (omega arith)
-less_or_not zero (suc end) = inl (omega arith)
-less_or_not (suc i) (suc end) = elim (less_or_not i end) [ inl h ↦ inl (omega arith) | inr h ↦ inr (omega arith) ]
+ended : (item : PlainField ℕ) (n : Bool) (i : ℕ) (chosen : ℕ → Bool) (new : ℕ → List PlainSlot) (rest : PlainType ℕ → List Layer → List PlainSlot) (ws : PlainValues)
+    → IsField item → chosen i ≡ true → (Continues item i new → ⊥) → AllFit (loosened item) ws → EachLeaf item i (ItemsBegin chosen ws new (inner_rest n rest))
+    → EachLeaf item i (λ d j ty path. chosen j ≡ true → new j ≡ rest ty (layer.List n ∷ path))
+ended item n i chosen new rest no_values ok lt stop fit h =
+    EachLeaf-map item i (ItemsBegin chosen no_values new (inner_rest n rest)) (λ d j ty path. chosen j ≡ true → new j ≡ rest ty (layer.List n ∷ path)) (λ d j ty path a b e x less. (x less).0) h
+ended item n i chosen new rest (one_value w ws) ok lt stop fit h =
+    absurd (stop (continues item i chosen new w (Later ws (inner_rest n rest)) ok lt fit.0 (next_begins item i chosen new w ws (inner_rest n rest) fit.1 h)))
 
 list_only : (d : ℕ) (name : List ℕ) (n : Bool) (item : PlainField ℕ) (k i : ℕ) (old new : ℕ → List PlainSlot) (vs : PlainValues)
     → IsField item → MarkIs (first_depth item + 1) (old i) mark.Inside → TookItems item k i old new vs → (Continues item i new → ⊥)
-    → (end : ℕ) (w : PlainValue) (rest : PlainType ℕ → List Layer → List PlainSlot) → Fits (loosened (field d name n (list item))) w
-    → EachLeaf (field d name n (list item)) i (BeginsBelow end k w old rest) → (i < end) ⊎ (end ≤ i)
-    → EachLeaf item i (λ d j ty path. j < end → new j ≡ rest ty (layer.List n ∷ path))
-list_only d name n item k i old new vs ok m took stop end w rest fit h (inl lt) =
-    let left = items_only d name n item k i end old new vs w rest ok m took lt fit h in
-    ended item n i end new rest left.some ok lt stop left.fit left.begin
-list_only d name n item k i old new vs ok m took stop end w rest fit h (inr ge) =
-    EachLeaf-all item i (λ d j ty path. j < end → new j ≡ rest ty (layer.List n ∷ path)) (λ d j ty path a b e lt. absurd (omega arith))
+    → (chosen : ℕ → Bool) (w : PlainValue) (rest : PlainType ℕ → List Layer → List PlainSlot) → IsClosed item i chosen → Fits (loosened (field d name n (list item))) w
+    → EachLeaf (field d name n (list item)) i (BeginsIn chosen k w old rest) → (chosen i ≡ true) ⊎ (chosen i ≡ false)
+    → EachLeaf item i (λ d j ty path. chosen j ≡ true → new j ≡ rest ty (layer.List n ∷ path))
+list_only d name n item k i old new vs ok m took stop chosen w rest closed fit h (inl lt) =
+    let left = items_only d name n item k i chosen old new vs w rest ok m took lt closed fit h in
+    ended item n i chosen new rest left.some ok lt stop left.fit left.begin
+list_only d name n item k i old new vs ok m took stop chosen w rest closed fit h (inr out) =
+    EachLeaf-all item i (λ d j ty path. chosen j ≡ true → new j ≡ rest ty (layer.List n ∷ path)) (λ d j ty path a b e there. absurd (true≢false (sym (closed_first item i j chosen closed a b there) ∙ out)))
 
 items_taken : (n : Bool) (item : PlainField ℕ) (k i : ℕ) (old new : ℕ → List PlainSlot) (vs : PlainValues) (took : TookItems item k i old new vs)
     → EachLeaf item i (λ d j ty path. old j ≡ slots_of ty (layer.List n ∷ path) (first_rep k (layer.List n ∷ path)) (items (one_value took.first took.more)) ++ new j)
@@ -226,7 +222,7 @@ took_list d name n item k i old new vs ok m took stop =
       fits = (took.head.fits, later_fits item i took.now new took.more took.rest);
       taken = items_taken n item k i old new vs took;
       keeps = Keeps-twice i (i + leaf_count item) old took.now new took.head.keeps (later_keeps item i took.now new took.more took.rest);
-      only = λ end w rest fit h. list_only d name n item k i old new vs ok m took stop end w rest fit h (less_or_not i end);
+      only = λ chosen w rest closed fit h. list_only d name n item k i old new vs ok m took stop chosen w rest closed fit h (true_or_not (chosen i));
     } in
     subst (λ (x : PlainValues). Took (field d name n (list item)) k i old new (items x)) (sym took.is) whole
 
@@ -234,32 +230,32 @@ took_list d name n item k i old new vs ok m took stop =
 pub no_first : (d : ℕ) (name : List ℕ) (n : Bool) (item : PlainField ℕ) (k i id : ℕ) (old : ℕ → List PlainSlot)
     → IsField item → MarkIs (first_depth item + 1) (old i) mark.Inside → HasNoShape item (k + 1) i old id → HasNoShape (field d name n (list item)) k i old id
 no_first d name n item k i id old ok m h =
-    SomeLeaf-map item i (λ d j ty path. (d ≡ id) × NoneBegins item (k + 1) i old (j + 1)) (λ e j ty path. (e ≡ id) × NoneBegins (field d name n (list item)) k i old (j + 1))
+    SomeLeaf-map item i (λ d j ty path. (d ≡ id) × NoneBeginsWith item (k + 1) i old j) (λ e j ty path. (e ≡ id) × NoneBeginsWith (field d name n (list item)) k i old j)
     (λ e j ty path a b some x. (
       x.0,
-      λ w rest fit begins.
-          let has = has_items d name n item k i (j + 1) old w rest ok m (omega arith) fit begins in
-          x.1 has.first (Later has.more (inner_rest n rest)) has.fit.0 has.begins,
+      λ chosen closed there w rest fit begins.
+          let has = has_items d name n item k i chosen old w rest ok m (closed_first item i j chosen closed a b there) fit begins in
+          x.1 chosen closed there has.first (Later has.more (inner_rest n rest)) has.fit.0 has.begins,
     ))
     h
 
-no_more : (item : PlainField ℕ) (n : Bool) (i end : ℕ) (now : ℕ → List PlainSlot) (rest : PlainType ℕ → List Layer → List PlainSlot) (ws : PlainValues)
-    → IsField item → i < end → Continues item i now → NoneBegins item 0 i now end → AllFit (loosened item) ws → EachLeaf item i (ItemsBegin end ws now (inner_rest n rest)) → ⊥
-no_more item n i end now rest no_values ok lt more none fit h = not_ended item i end now (inner_rest n rest) ok lt more h
-no_more item n i end now rest (one_value w ws) ok lt more none fit h = none w (Later ws (inner_rest n rest)) fit.0 (next_begins item i end now w ws (inner_rest n rest) fit.1 h)
+no_more : (item : PlainField ℕ) (n : Bool) (i : ℕ) (chosen : ℕ → Bool) (now : ℕ → List PlainSlot) (rest : PlainType ℕ → List Layer → List PlainSlot) (ws : PlainValues)
+    → IsField item → chosen i ≡ true → Continues item i now → NoneBegins item 0 i now chosen → AllFit (loosened item) ws → EachLeaf item i (ItemsBegin chosen ws now (inner_rest n rest)) → ⊥
+no_more item n i chosen now rest no_values ok lt more none fit h = not_ended item i chosen now (inner_rest n rest) ok lt more h
+no_more item n i chosen now rest (one_value w ws) ok lt more none fit h = none w (Later ws (inner_rest n rest)) fit.0 (next_begins item i chosen now w ws (inner_rest n rest) fit.1 h)
 
 -- a further item is refused
 pub no_next : (d : ℕ) (name : List ℕ) (n : Bool) (item : PlainField ℕ) (k i id : ℕ) (old now : ℕ → List PlainSlot) (vs : PlainValues)
     → IsField item → MarkIs (first_depth item + 1) (old i) mark.Inside → TookItems item k i old now vs → Continues item i now → HasNoShape item 0 i now id
     → HasNoShape (field d name n (list item)) k i old id
 no_next d name n item k i id old now vs ok m took more h =
-    SomeLeaf-map item i (λ d j ty path. (d ≡ id) × NoneBegins item 0 i now (j + 1)) (λ e j ty path. (e ≡ id) × NoneBegins (field d name n (list item)) k i old (j + 1))
+    SomeLeaf-map item i (λ d j ty path. (d ≡ id) × NoneBeginsWith item 0 i now j) (λ e j ty path. (e ≡ id) × NoneBeginsWith (field d name n (list item)) k i old j)
     (λ e j ty path a b some x. (
       x.0,
-      λ w rest fit begins.
-          let lt : i < j + 1 = omega arith in
-          let left = items_only d name n item k i (j + 1) old now vs w rest ok m took lt fit begins in
-          no_more item n i (j + 1) now rest left.some ok lt more x.1 left.fit left.begin,
+      λ chosen closed there w rest fit begins.
+          let first = closed_first item i j chosen closed a b there in
+          let left = items_only d name n item k i chosen old now vs w rest ok m took first closed fit begins in
+          no_more item n i chosen now rest left.some ok first more (x.1 chosen closed there) left.fit left.begin,
     ))
     h
 

@@ -1,5 +1,5 @@
 -- A leaf's value is taken, or no value has its slot.
-use Rattle.std.proofs.Common.{◌≡◌, ◌≢◌, ℕ, ◌+◌, ◌<◌, Bool, List, [], ◌∷◌, ◌++◌, IsUtf8, refl, ap, sym, ◌∙◌, subst, arith}
+use Rattle.std.proofs.Common.{◌≡◌, ◌≢◌, ℕ, ◌+◌, Bool, true, List, [], ◌∷◌, ◌++◌, IsUtf8, refl, ap, sym, ◌∙◌, subst, arith}
 use Rattle.std.specs.List.{Contains}
 use Rattle.lan_model.specs.declared.tree.Layer.{Layer}
 use Rattle.lan_model.specs.declared.tree.Layer.TheVariants as layer
@@ -8,11 +8,11 @@ use Rattle.lan_model.specs.Fits.{Fits}
 use Rattle.lan_levels.specs.declared.slot.State.TheVariants as state
 use Rattle.lan_levels.specs.declared.join.Join.{Join}
 use Rattle.lan_levels.specs.declared.join.Join.TheVariants as join
-use Rattle.lan_levels.specs.PlainSlots.{bytes, PlainSlot}
+use Rattle.lan_levels.specs.PlainSlots.{nothing, bytes, PlainSlot}
 use Rattle.lan_levels.specs.SlotsOf.{slots_of, slot}
 use Rattle.lan_levels.specs.Loosened.{loosened}
-use Rattle.lan_levels.specs.BadSlots.{IsBadText, HasNull}
-use Rattle.lan_levels.specs.Taken.{Step, Took, Refused, IsAlone, leaf_slot, IsLeafValue, HasShape, LeafRefused, BeginsBelow}
+use Rattle.lan_levels.specs.BadSlots.{IsBadText}
+use Rattle.lan_levels.specs.Taken.{Step, Took, Refused, IsAlone, leaf_slot, IsLeafValue, HasShape, LeafRefused, BeginsIn}
 
 leaf_slots_is : (ty : PlainType ℕ) (n : Bool) (r : ℕ) (v : PlainValue) → slots_of ty (layer.Item n ∷ []) r v ≡ leaf_slot ty r v ∷ []
 leaf_slots_is ty n r null = refl
@@ -45,25 +45,25 @@ took_leaf id name n (primitive p) k i old new v s a fit step e = record {
   fits = fit;
   taken = taken_leaf (primitive p) n k v s (old i) (new i) step.here e;
   keeps = step.keeps;
-  only = λ end w rest hw h lt. only_left (primitive p) n k w s (old i) (new i) (rest (primitive p) (layer.Item n ∷ [])) step.here (h lt).0;
+  only = λ chosen w rest closed hw h lt. only_left (primitive p) n k w s (old i) (new i) (rest (primitive p) (layer.Item n ∷ [])) step.here (h lt).0;
 }
 took_leaf id name n (vector p c) k i old new v s a fit step e = record {
   fits = fit;
   taken = taken_leaf (vector p c) n k v s (old i) (new i) step.here e;
   keeps = step.keeps;
-  only = λ end w rest hw h lt. only_left (vector p c) n k w s (old i) (new i) (rest (vector p c) (layer.Item n ∷ [])) step.here (h lt).0;
+  only = λ chosen w rest closed hw h lt. only_left (vector p c) n k w s (old i) (new i) (rest (vector p c) (layer.Item n ∷ [])) step.here (h lt).0;
 }
 took_leaf id name n text k i old new v s a fit step e = record {
   fits = fit;
   taken = taken_leaf text n k v s (old i) (new i) step.here e;
   keeps = step.keeps;
-  only = λ end w rest hw h lt. only_left text n k w s (old i) (new i) (rest text (layer.Item n ∷ [])) step.here (h lt).0;
+  only = λ chosen w rest closed hw h lt. only_left text n k w s (old i) (new i) (rest text (layer.Item n ∷ [])) step.here (h lt).0;
 }
 took_leaf id name n byte_type k i old new v s a fit step e = record {
   fits = fit;
   taken = taken_leaf byte_type n k v s (old i) (new i) step.here e;
   keeps = step.keeps;
-  only = λ end w rest hw h lt. only_left byte_type n k w s (old i) (new i) (rest byte_type (layer.Item n ∷ [])) step.here (h lt).0;
+  only = λ chosen w rest closed hw h lt. only_left byte_type n k w s (old i) (new i) (rest byte_type (layer.Item n ∷ [])) step.here (h lt).0;
 }
 took_leaf id name n (list item) k i old new v s a fit step e = absurd a
 took_leaf id name n (struct members) k i old new v s a fit step e = absurd a
@@ -102,19 +102,18 @@ shape_of id name n (struct members) (group vs) a h = absurd a
 abbrev NoSlot : PlainType ℕ → ℕ → List PlainSlot → Type 0
 NoSlot ty k old = (w : PlainValue) (rest : List PlainSlot) → HasShape ty w → old ≡ leaf_slot ty k w ∷ rest → ⊥
 
-no_start : (id : ℕ) (name : List ℕ) (n : Bool) (ty : PlainType ℕ) (k i : ℕ) (old : ℕ → List PlainSlot) (w : PlainValue) (rest : PlainType ℕ → List Layer → List PlainSlot)
-    → IsAlone ty → NoSlot ty k (old i) → Fits (loosened (field id name n ty)) w → BeginsBelow (i + 1) k w old rest id i ty (layer.Item n ∷ []) → ⊥
-no_start id name n ty k i old w rest a h hw b =
-    let lt : i < i + 1 = omega arith in
+no_start : (id : ℕ) (name : List ℕ) (n : Bool) (ty : PlainType ℕ) (k i : ℕ) (chosen : ℕ → Bool) (old : ℕ → List PlainSlot) (w : PlainValue) (rest : PlainType ℕ → List Layer → List PlainSlot)
+    → chosen i ≡ true → IsAlone ty → NoSlot ty k (old i) → Fits (loosened (field id name n ty)) w → BeginsIn chosen k w old rest id i ty (layer.Item n ∷ []) → ⊥
+no_start id name n ty k i chosen old w rest lt a h hw b =
     h w (rest ty (layer.Item n ∷ [])) (shape_of id name n ty w a hw)
     ((b lt).0 ∙ ap (λ (x : List PlainSlot). x ++ rest ty (layer.Item n ∷ [])) (leaf_slots_is ty n k w))
 
 pub no_leaf : (id : ℕ) (name : List ℕ) (n : Bool) (ty : PlainType ℕ) (k i : ℕ) (whole old : ℕ → List PlainSlot) → IsAlone ty → NoSlot ty k (old i)
     → Refused (field id name n ty) k i whole old (join.Shape id)
-no_leaf id name n (primitive p) k i whole old a h = (refl, λ w rest hw b. no_start id name n (primitive p) k i old w rest a h hw b)
-no_leaf id name n (vector p c) k i whole old a h = (refl, λ w rest hw b. no_start id name n (vector p c) k i old w rest a h hw b)
-no_leaf id name n text k i whole old a h = (refl, λ w rest hw b. no_start id name n text k i old w rest a h hw b)
-no_leaf id name n byte_type k i whole old a h = (refl, λ w rest hw b. no_start id name n byte_type k i old w rest a h hw b)
+no_leaf id name n (primitive p) k i whole old a h = (refl, λ chosen closed there w rest hw b. no_start id name n (primitive p) k i chosen old w rest there a h hw b)
+no_leaf id name n (vector p c) k i whole old a h = (refl, λ chosen closed there w rest hw b. no_start id name n (vector p c) k i chosen old w rest there a h hw b)
+no_leaf id name n text k i whole old a h = (refl, λ chosen closed there w rest hw b. no_start id name n text k i chosen old w rest there a h hw b)
+no_leaf id name n byte_type k i whole old a h = (refl, λ chosen closed there w rest hw b. no_start id name n byte_type k i chosen old w rest there a h hw b)
 no_leaf id name n (list item) k i whole old a h = absurd a
 no_leaf id name n (struct members) k i whole old a h = absurd a
 
@@ -149,8 +148,12 @@ bad_text ty whole old new i s t st step here is bad = record {
   bad = bad;
 }
 
-bad_null : (whole old new : ℕ → List PlainSlot) (i : ℕ) (s : PlainSlot) → Stands i whole old → Step i old new s → s.state ≡ state.Null 0 → HasNull (whole i) 0
-bad_null whole old new i s st step e = record { slot = s; stands = st s (new i) step.here; null = e }
+bad_null : (whole old new : ℕ → List PlainSlot) (i : ℕ) (s : PlainSlot) (k : ℕ) → Stands i whole old → Step i old new s → s.rep ≡ k → s.state ≡ state.Null 0 → s.value ≡ nothing
+    → Contains (whole i) (slot (0 + k) (state.Null 0) nothing)
+bad_null whole old new i s k st step r e v =
+    let rep : s.rep ≡ 0 + k = omega (arith, r) in
+    let is : s ≡ slot (0 + k) (state.Null 0) nothing = same_slot s (slot (0 + k) (state.Null 0) nothing) rep e v in
+    subst (λ (x : PlainSlot). Contains (whole i) x) is (st s (new i) step.here)
 
 pub leaf_refused : (id : ℕ) (name : List ℕ) (n : Bool) (ty : PlainType ℕ) (k i : ℕ) (whole old new : ℕ → List PlainSlot) (s : PlainSlot) (e : Join)
     → IsAlone ty → Stands i whole old → Step i old new s → s.rep ≡ k → LeafRefused id n ty s e → Refused (field id name n ty) k i whole old e
@@ -162,13 +165,13 @@ leaf_refused id name n ty k i whole old new s (join.Shape d) a st step r h =
     let g : leaf_slot ty k w ≡ s = cc in
     h.1 w hw (ap (λ (x : ℕ). leaf_slot ty x w) r ∙ g)))
 leaf_refused id name n (primitive p) k i whole old new s (join.NotNull d) a st step r h =
-    (h.0, record { not_nullable = h.1; nulls = (0, refl, bad_null whole old new i s st step h.2) })
+    (h.0, record { not_nullable = h.1; outer = k; nulls = (0, refl, bad_null whole old new i s k st step r h.2 h.3) })
 leaf_refused id name n (vector p c) k i whole old new s (join.NotNull d) a st step r h =
-    (h.0, record { not_nullable = h.1; nulls = (0, refl, bad_null whole old new i s st step h.2) })
+    (h.0, record { not_nullable = h.1; outer = k; nulls = (0, refl, bad_null whole old new i s k st step r h.2 h.3) })
 leaf_refused id name n text k i whole old new s (join.NotNull d) a st step r h =
-    (h.0, record { not_nullable = h.1; nulls = (0, refl, bad_null whole old new i s st step h.2) })
+    (h.0, record { not_nullable = h.1; outer = k; nulls = (0, refl, bad_null whole old new i s k st step r h.2 h.3) })
 leaf_refused id name n byte_type k i whole old new s (join.NotNull d) a st step r h =
-    (h.0, record { not_nullable = h.1; nulls = (0, refl, bad_null whole old new i s st step h.2) })
+    (h.0, record { not_nullable = h.1; outer = k; nulls = (0, refl, bad_null whole old new i s k st step r h.2 h.3) })
 leaf_refused id name n (list item) k i whole old new s (join.NotNull d) a st step r h = absurd a
 leaf_refused id name n (struct members) k i whole old new s (join.NotNull d) a st step r h = absurd a
 leaf_refused id name n (primitive p) k i whole old new s (join.NotText d) a st step r h = let e : primitive p ≡ text = h.1 in absurd (cc)

@@ -1,19 +1,19 @@
 -- Nulls of lists and structs.
-use Rattle.std.proofs.Common.{◌≡◌, ℕ, ◌+◌, ◌<◌, inl, Bool, true, false, List, [], ◌∷◌, length, get_or, refl, ap, sym, arith}
+use Rattle.std.proofs.Common.{◌≡◌, ℕ, ◌+◌, ◌<◌, inl, Bool, true, false, List, [], ◌∷◌, length, get_or, refl, ap, sym, subst, arith}
 use Rattle.std.specs.List.{Contains}
-use Rattle.lan_model.specs.declared.tree.Layer.{Layer}
 use Rattle.lan_model.specs.declared.tree.Field.{Field}
-use Rattle.lan_model.specs.Plain.{PlainType, list, struct, PlainField, field, PlainFields, null, items, no_values, plain_field, plain_fields}
+use Rattle.lan_model.specs.Plain.{list, struct, PlainField, field, PlainFields, null, items, no_values, plain_field, plain_fields}
 use Rattle.lan_model.specs.Table.{IsField}
+use Rattle.lan_levels.specs.declared.slot.State.TheVariants as state
 use Rattle.lan_levels.specs.declared.join.Join.TheVariants as join
 use Rattle.lan_levels.specs.declared.bare.Mark.TheVariants as mark
-use Rattle.lan_levels.specs.PlainSlots.{PlainSlot}
+use Rattle.lan_levels.specs.PlainSlots.{nothing, PlainSlot}
+use Rattle.lan_levels.specs.SlotsOf.{slot}
 use Rattle.lan_levels.specs.EachLeaf.{first_depth, first_depth_of}
-use Rattle.lan_levels.specs.BadSlots.{HasNull, IsBadNull}
+use Rattle.lan_levels.specs.BadSlots.{SaysNull, IsBadNull}
 use Rattle.lan_levels.specs.Taken.{Took, Refused, layers_below, bare_slot, TookBare, IsNotBare, TookEachBare, SomeIsNotBare, MarkIs}
-use Rattle.lan_levels.proofs.Reps.{layers_below-is}
+use Rattle.lan_levels.proofs.Reps.{first_rep-is, layers_below-is}
 use Rattle.lan_levels.proofs.EachLeaf.{EachLeaf-map2}
-use Rattle.lan_levels.proofs.Proper.{NullIn}
 use Rattle.lan_levels.proofs.TakenBare.{took_each_bare, some_is_not_bare, took_null, took_empty, no_null, no_empty}
 
 -- what is left is of all slots
@@ -23,8 +23,13 @@ AllStand slots old = (j : ℕ) (s : PlainSlot) (rest : List PlainSlot) → old j
 bad_null : (f : PlainField ℕ) (n : Bool) (k i : ℕ) (slots old new : ℕ → List PlainSlot) → n ≡ false → TookBare f false 0 k i old new → AllStand slots old → IsBadNull n f i slots
 bad_null f n k i slots old new isn took stand = record {
   not_nullable = isn;
-  nulls = EachLeaf-map2 f i (λ d j ty path. layers_below 0 path + 1 ≡ length path + 0) (λ d j ty path. old j ≡ bare_slot false 0 k path ∷ new j) (NullIn slots)
-      (λ d j ty path a b e x y. (layers_below 0 path, omega arith, record { slot = bare_slot false 0 k path; stands = stand j (bare_slot false 0 k path) (new j) y; null = refl }))
+  outer = k;
+  nulls = EachLeaf-map2 f i (λ d j ty path. layers_below 0 path + 1 ≡ length path + 0) (λ d j ty path. old j ≡ bare_slot false 0 k path ∷ new j) (SaysNull slots k)
+      (λ d j ty path a b e x y. (
+        layers_below 0 path,
+        omega arith,
+        subst (λ (r : ℕ). Contains (slots j) (slot r (state.Null (layers_below 0 path)) nothing)) (first_rep-is k path) (stand j (bare_slot false 0 k path) (new j) y),
+      ))
       (layers_below-is f i 0) took.taken;
 }
 

@@ -1,10 +1,11 @@
 -- Slots that no value of a field has: nulls of what is not nullable, and texts that are not UTF-8.
 use Rattle.std.specs.Prelude.{◌≡◌, ℕ, zero, suc, ◌+◌, Bool, false, List, [], ◌∷◌, length, Contains, IsUtf8, ◌⊎◌}
-use Rattle.lan_model.specs.Plain.{text, list, struct, PlainField, field, PlainFields, no_fields, one_field}
+use Rattle.lan_model.specs.declared.tree.Layer.{Layer}
+use Rattle.lan_model.specs.Plain.{PlainType, text, list, struct, PlainField, field, PlainFields, no_fields, one_field}
 use Rattle.lan_levels.specs.declared.slot.State.TheVariants as state
 use Rattle.lan_levels.specs.declared.slot.SlotRun.{SlotRun}
-use Rattle.lan_levels.specs.PlainSlots.{bytes, PlainSlot, plain_slots}
-use Rattle.lan_levels.specs.SlotsOf.{slot}
+use Rattle.lan_levels.specs.PlainSlots.{nothing, bytes, PlainSlot, plain_slots}
+use Rattle.lan_levels.specs.SlotsOf.{slot, lists_in}
 use Rattle.lan_levels.specs.EachLeaf.{leaf_count, EachLeaf, SomeLeaf}
 
 -- the slots of the run at a place, none past the end
@@ -13,16 +14,15 @@ slots_at [] j = []
 slots_at (run ∷ runs) zero = plain_slots run.slots
 slots_at (run ∷ runs) (suc j) = slots_at runs j
 
--- one of the slots says that the layer with so many inside is null
-pub record HasNull (slots : List PlainSlot) (depth : ℕ) : Type 0 where
-  pub slot : PlainSlot
-  pub stands : Contains slots slot
-  pub null : slot.state ≡ state.Null depth
+-- a slot of the leaf says that the outermost layer of the path is null, and `outer` list layers further out began there
+abbrev pub SaysNull : (ℕ → List PlainSlot) → ℕ → ℕ → ℕ → PlainType ℕ → List Layer → Type 0
+SaysNull slots outer d j ty path = (depth : ℕ) × (depth + 1 ≡ length path) × Contains (slots j) (slot (lists_in path + outer) (state.Null depth) nothing)
 
--- in each leaf of the field, which is not nullable, a slot says that it is null
+-- in each leaf of the field, which is not nullable, a slot says that it is null, and as many list layers further out began in each
 pub record IsBadNull (n : Bool) (f : PlainField ℕ) (i : ℕ) (slots : ℕ → List PlainSlot) : Type 0 where
   pub not_nullable : n ≡ false
-  pub nulls : EachLeaf f i (λ d j ty path. (depth : ℕ) × (depth + 1 ≡ length path) × HasNull (slots j) depth)
+  pub outer : ℕ
+  pub nulls : EachLeaf f i (SaysNull slots outer)
 
 abbrev mutual
   -- the field of the number `id`, or inside it, has such nulls

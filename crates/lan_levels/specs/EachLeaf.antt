@@ -1,5 +1,5 @@
 -- The leaves of a field in order, each with its number, its place, its type, and its layers from the outermost inward.
-use Rattle.std.specs.Prelude.{ℕ, ◌+◌, suc, Bool, List, [], ◌∷◌, ◌⊎◌, ⊤}
+use Rattle.std.specs.Prelude.{◌≡◌, ℕ, ◌+◌, suc, Bool, true, List, [], ◌∷◌, ◌⊎◌, ⊤}
 use Rattle.lan_model.specs.declared.tree.Layer.{Layer}
 use Rattle.lan_model.specs.declared.tree.Layer.TheVariants as layer
 use Rattle.lan_model.specs.Plain.{PlainType, list, struct, PlainField, field, PlainFields, no_fields, one_field}
@@ -59,3 +59,15 @@ abbrev mutual
   pub first_lists_of : PlainFields ℕ → ℕ
   first_lists_of no_fields = 0
   first_lists_of (one_field f fs) = first_lists f
+
+abbrev mutual
+  -- with each chosen leaf of a struct the first leaf of the struct is chosen; the leaves of the field have the places from `i` on
+  pub IsClosed : PlainField ℕ → ℕ → (ℕ → Bool) → Type 0
+  IsClosed (field id name n (list item)) i chosen = IsClosed item i chosen
+  IsClosed (field id name n (struct members)) i chosen = AreClosed members i i chosen
+  IsClosed (field id name n ty) i chosen = ⊤
+
+  -- the same of members, in a struct whose first leaf has the place `first`
+  pub AreClosed : PlainFields ℕ → ℕ → ℕ → (ℕ → Bool) → Type 0
+  AreClosed no_fields first i chosen = ⊤
+  AreClosed (one_field f fs) first i chosen = (chosen i ≡ true → chosen first ≡ true) × IsClosed f i chosen × AreClosed fs first (i + leaf_count f) chosen

@@ -13,7 +13,7 @@ use Rattle.lan_levels.specs.declared.bare.Mark.{Mark}
 use Rattle.lan_levels.specs.declared.bare.Mark.TheVariants as mark
 use Rattle.lan_levels.specs.PlainSlots.{PlainPiece, nothing, bytes, PlainSlot}
 use Rattle.lan_levels.specs.SlotsOf.{slot, slots_of, lists_in, piece_of}
-use Rattle.lan_levels.specs.EachLeaf.{leaf_count, EachLeaf, SomeLeaf, first_lists}
+use Rattle.lan_levels.specs.EachLeaf.{leaf_count, EachLeaf, SomeLeaf, IsClosed, first_lists}
 use Rattle.lan_levels.specs.Loosened.{type_loosened, loosened}
 use Rattle.lan_levels.specs.BadSlots.{slots_at, HasBadNull, HasBadText}
 
@@ -54,25 +54,29 @@ layers_below below (layer.Item n ∷ path) = below
 layers_below below (layer.Struct n m ∷ path) = layers_below (below + 1) path
 layers_below below (layer.List n ∷ path) = layers_below (below + 1) path
 
--- the value begins what is left at a place below `end`, and what follows it begins no item inside it
-abbrev pub BeginsBelow : ℕ → ℕ → PlainValue → (ℕ → List PlainSlot) → (PlainType ℕ → List Layer → List PlainSlot) → ℕ → ℕ → PlainType ℕ → List Layer → Type 0
-BeginsBelow end lists v old rest d j ty path = j < end → (old j ≡ slots_of ty path (first_rep lists path) v ++ rest ty path) × IsLater (lists_in path) (rest ty path)
+-- the value begins what is left at a chosen place, and what follows it begins no item inside it
+abbrev pub BeginsIn : (ℕ → Bool) → ℕ → PlainValue → (ℕ → List PlainSlot) → (PlainType ℕ → List Layer → List PlainSlot) → ℕ → ℕ → PlainType ℕ → List Layer → Type 0
+BeginsIn chosen lists v old rest d j ty path = chosen j ≡ true → (old j ≡ slots_of ty path (first_rep lists path) v ++ rest ty path) × IsLater (lists_in path) (rest ty path)
 
 -- the value is taken: it fits, its slots are those between old and new, and whatever value of the shape begins what was left, it leaves the same
 pub record Took (f : PlainField ℕ) (lists i : ℕ) (old new : ℕ → List PlainSlot) (v : PlainValue) : Type 0 where
   pub fits : Fits f v
   pub taken : EachLeaf f i (λ d j ty path. old j ≡ slots_of ty path (first_rep lists path) v ++ new j)
   pub keeps : Keeps i (i + leaf_count f) old new
-  pub only : (end : ℕ) (w : PlainValue) (rest : PlainType ℕ → List Layer → List PlainSlot) → Fits (loosened f) w → EachLeaf f i (BeginsBelow end lists w old rest)
-      → EachLeaf f i (λ d j ty path. j < end → new j ≡ rest ty path)
+  pub only : (chosen : ℕ → Bool) (w : PlainValue) (rest : PlainType ℕ → List Layer → List PlainSlot) → IsClosed f i chosen → Fits (loosened f) w → EachLeaf f i (BeginsIn chosen lists w old rest)
+      → EachLeaf f i (λ d j ty path. chosen j ≡ true → new j ≡ rest ty path)
 
--- no value of the shape begins what is left below `end`
-abbrev pub NoneBegins : PlainField ℕ → ℕ → ℕ → (ℕ → List PlainSlot) → ℕ → Type 0
-NoneBegins f lists i old end = (w : PlainValue) (rest : PlainType ℕ → List Layer → List PlainSlot) → Fits (loosened f) w → EachLeaf f i (BeginsBelow end lists w old rest) → ⊥
+-- no value of the shape begins what is left at the chosen places
+abbrev pub NoneBegins : PlainField ℕ → ℕ → ℕ → (ℕ → List PlainSlot) → (ℕ → Bool) → Type 0
+NoneBegins f lists i old chosen = (w : PlainValue) (rest : PlainType ℕ → List Layer → List PlainSlot) → Fits (loosened f) w → EachLeaf f i (BeginsIn chosen lists w old rest) → ⊥
 
--- no value of the shape begins what is left in the leaves up to one of the number `id`
+-- no value does at the place `j` and the first places of the structs around it, whatever else is chosen
+abbrev pub NoneBeginsWith : PlainField ℕ → ℕ → ℕ → (ℕ → List PlainSlot) → ℕ → Type 0
+NoneBeginsWith f lists i old j = (chosen : ℕ → Bool) → IsClosed f i chosen → chosen j ≡ true → NoneBegins f lists i old chosen
+
+-- no value of the shape begins what is left in a leaf of the number `id` and the first leaves of the structs around it
 abbrev pub HasNoShape : PlainField ℕ → ℕ → ℕ → (ℕ → List PlainSlot) → ℕ → Type 0
-HasNoShape f lists i old id = SomeLeaf f i (λ d j ty path. (d ≡ id) × NoneBegins f lists i old (j + 1))
+HasNoShape f lists i old id = SomeLeaf f i (λ d j ty path. (d ≡ id) × NoneBeginsWith f lists i old j)
 
 -- why no value is taken
 abbrev pub Refused : PlainField ℕ → ℕ → ℕ → (ℕ → List PlainSlot) → (ℕ → List PlainSlot) → Join → Type 0
@@ -208,7 +212,7 @@ HasShape ty v = FitsItem (type_loosened ty) v
 -- why a slot of the leaf `id` is no value's
 abbrev pub LeafRefused : ℕ → Bool → PlainType ℕ → PlainSlot → Join → Type 0
 LeafRefused id n ty s (join.Shape d) = (id ≡ d) × ((w : PlainValue) → HasShape ty w → leaf_slot ty s.rep w ≡ s → ⊥)
-LeafRefused id n ty s (join.NotNull d) = (id ≡ d) × (n ≡ false) × (s.state ≡ state.Null 0)
+LeafRefused id n ty s (join.NotNull d) = (id ≡ d) × (n ≡ false) × (s.state ≡ state.Null 0) × (s.value ≡ nothing)
 LeafRefused id n ty s (join.NotText d) = (id ≡ d) × (ty ≡ text) × (s.state ≡ state.Here) × ((t : List ℕ) × (s.value ≡ bytes t) × (IsUtf8 t → ⊥))
 LeafRefused id n ty s join.Memory = ⊤
 

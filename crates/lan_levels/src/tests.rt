@@ -493,6 +493,28 @@ fn numbers_are_coded(alloc: Global) -> Result<bool, AllocError> {
     )
 }
 
+/// Whether the number of a table's empty list is that of the format.
+fn table_is_coded(alloc: Global) -> Result<bool, AllocError> {
+    let leaf = nested_leaf(alloc, 2, TABLE)?;
+    let codes = codes_of(alloc, &leaf)?;
+    Ok(
+        is_numbered(&codes, &leaf, State::Here, 0, false)
+            && is_numbered(&codes, &leaf, State::Empty(1), 1, true),
+    )
+}
+
+/// Whether the numbers of a null pair are those of the format, in the list and in the string.
+fn pair_is_coded(alloc: Global) -> Result<bool, AllocError> {
+    let list = list_leaf(alloc, 2, 0)?;
+    let text = text_leaf(alloc)?;
+    let list_codes = codes_of(alloc, &list)?;
+    let text_codes = codes_of(alloc, &text)?;
+    Ok(
+        is_numbered(&list_codes, &list, State::Null(2), 2, true)
+            && is_numbered(&text_codes, &text, State::Null(1), 1, false),
+    )
+}
+
 #[test]
 fn levels_of_lists(rt: HostRuntime) -> Result<(), Fail> {
     for case in 0..4 {
@@ -504,6 +526,8 @@ fn levels_of_lists(rt: HostRuntime) -> Result<(), Fail> {
 #[test]
 fn codes_of_numbers(rt: HostRuntime) -> Result<(), Fail> {
     assert!(rt; numbers_are_coded(rt.alloc())?);
+    assert!(rt; table_is_coded(rt.alloc())?);
+    assert!(rt; pair_is_coded(rt.alloc())?);
     Ok(())
 }
 

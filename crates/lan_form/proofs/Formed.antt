@@ -10,14 +10,13 @@ use Rattle.std.proofs.lemmas.List.Kept.{AllPairs-cons}
 use Rattle.std.proofs.lemmas.Slice.Eq.{bytes_eq-Decides}
 use Rattle.serde_json.specs.Data.{Data, null, boolean, number, string, array, object, Items, no_items, item, Members, no_members, member}
 use Rattle.lan_model.specs.Plain.{PlainType, primitive, vector, text, bytes, list, struct, field, fields_from, type_unnumbered}
-use Rattle.lan_model.specs.Table.{Column, name_of, names_of, AreNamed, IsField, AreFields, AreColumns, all_depths}
+use Rattle.lan_model.specs.Table.{Column, name_of, names_of, AreNamed, IsField, AreFields, AreColumns, all_depths, HasNamedItems, HaveNamedItems}
 use Rattle.lan_schema.specs.Logical.{leaf_type, IsLeafType}
 use Rattle.lan_schema.proofs.LeafNames.{named_once}
 use Rattle.lan_form.specs.declared.faults.FormFault.TheVariants as fault
 use Rattle.lan_form.specs.Judged.{Judged, on_good, and_then}
 use Rattle.lan_form.specs.Shape.{Label, label_of}
 use Rattle.lan_form.specs.Names.{first_twice, unless_twice, distinct}
-use Rattle.lan_form.specs.Items.{HasNamedItems, HaveNamedItems}
 use Rattle.lan_form.specs.Limits.{are_shallow, within}
 use Rattle.lan_form.proofs.Few.{and_both}
 use Rattle.lan_form.specs.Form.{ColumnType, known, typed, named, field_from, field_form, item_form, fields_form, list_form, each_form}
@@ -224,7 +223,7 @@ limits_ok cs is =
 pub columns_formed : (cs : List Column) → AreGood cs → within cs ≡ Ok cs → AreColumns cs
 columns_formed cs good is =
     let limits = limits_ok cs is in
-    record { named = good.0; each = good.1; leaves = limits.1; layers = shallow_all (all_depths (fields_from cs) 0) limits.0 }
+    record { named = good.0; each = good.1; items = good.2; leaves = limits.1; layers = shallow_all (all_depths (fields_from cs) 0) limits.0 }
 
 pub alone_good : (f : Column) → IsGood f → AreGood (f ∷ [])
 alone_good (field id name nullable ty) good = (

@@ -13,7 +13,7 @@ use Rattle.serde_json.specs.Data.{Data, array, object, string, boolean, Items, n
 use Rattle.serde_json.specs.Read.{read, of_json, of_items, of_members}
 use Rattle.lan_model.specs.declared.tree.Primitive.TheVariants as p
 use Rattle.lan_model.specs.Plain.{PlainType, primitive, vector, text, bytes, list, struct, PlainField, field, PlainFields, no_fields, one_field, fields_from, unnumbered, type_unnumbered, all_unnumbered}
-use Rattle.lan_model.specs.Table.{Column, name_of, names_of, AreNamed, IsField, AreFields, AreColumns, depths_of, all_depths}
+use Rattle.lan_model.specs.Table.{Column, name_of, names_of, AreNamed, IsField, AreFields, AreColumns, depths_of, all_depths, HasNamedItems, HaveNamedItems}
 use Rattle.lan_schema.specs.Logical.{leaf_type, IsLeafType}
 use Rattle.lan_schema.proofs.LeafNames.{names_leaf}
 use Rattle.lan_form.specs.declared.faults.FormFault.TheVariants as fault
@@ -22,7 +22,6 @@ use Rattle.lan_form.specs.Names.{first_twice, unless_twice, distinct}
 use Rattle.lan_form.specs.Limits.{are_shallow, within}
 use Rattle.json.specs.Print.{print}
 use Rattle.lan_form.specs.Shape.{Label, label_of}
-use Rattle.lan_form.specs.Items.{HasNamedItems, HaveNamedItems}
 use Rattle.lan_form.specs.Form.{ColumnType, form, field_from, named, typed, known, field_form, item_form, fields_form, list_form, each_form}
 use Rattle.lan_form.specs.Printed.{kind_of, label_members, field_json, fields_json, json_of}
 use Rattle.lan_form.specs.Laws.{IsReadBack}
@@ -245,7 +244,7 @@ within_limits cs columns =
 
 pub read_back : (fields : List (PlainField ℕ)) → IsReadBack fields
 unfolding form json_of
-read_back fields columns items =
+read_back fields columns =
     let fs = fields_from fields in
     let cs = map unnumbered fields in
     let same : fields_from cs ≡ all_unnumbered fs = ap fields_from (sym (columns_in_from fields)) ∙ columns_from fs in
@@ -254,5 +253,5 @@ read_back fields columns items =
     let shallow = ap (λ all. are_shallow (all_depths all 0)) (sym same) ∙ are_shallow_by (all_depths (fields_from cs) 0) columns.layers in
     let deep = fields_depth fs 0 16 refl is shallow in
     let read_as : read (print (tree.json_tokens (json.array (fields_json fs)))) ≡ Some (array (fields_data fs)) = read_tree (json.array (fields_json fs)) (none_in fs) (omega (arith, deep)) ∙ ap (option_map array) (fields_read fs) in
-    let formed : list_form (array (fields_data fs)) ≡ Ok cs = list_formed fs are (fields_formed fs is are.1 (all_named_items fs (subst HaveNamedItems same items))) ∙ ap (λ l. Ok l) (columns_in_from fields) in
+    let formed : list_form (array (fields_data fs)) ≡ Ok cs = list_formed fs are (fields_formed fs is are.1 (all_named_items fs (subst HaveNamedItems same columns.items))) ∙ ap (λ l. Ok l) (columns_in_from fields) in
     ap (λ r. and_then (some_or fault.Json r) (λ d. and_then (list_form d) within)) read_as ∙ ap (λ r. and_then r within) formed ∙ within_limits cs columns

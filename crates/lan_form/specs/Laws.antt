@@ -3,9 +3,8 @@ use Rattle.std.specs.Prelude.{◌≡◌, ℕ, List, map, Ok}
 use Rattle.lan_model.specs.Plain.{PlainField, fields_from, unnumbered}
 use Rattle.lan_model.specs.Table.{AreColumns}
 use Rattle.lan_form.specs.Form.{form}
-use Rattle.lan_form.specs.Items.{HaveNamedItems}
 use Rattle.lan_form.specs.Printed.{json_of}
 
--- the JSON of fields that a table may have, with a name for each list's item, stands for them, apart from their numbers
+-- the JSON of fields that a table may have stands for them, apart from their numbers
 abbrev pub IsReadBack : List (PlainField ℕ) → Type 0
-IsReadBack fields = AreColumns (map unnumbered fields) → HaveNamedItems (fields_from (map unnumbered fields)) → form (json_of (fields_from fields)) ≡ Ok (map unnumbered fields)
+IsReadBack fields = AreColumns (map unnumbered fields) → form (json_of (fields_from fields)) ≡ Ok (map unnumbered fields)

@@ -1,5 +1,4 @@
 pub mod Form
-pub mod Items
 pub mod Judged
 pub mod Labels
 pub mod Laws

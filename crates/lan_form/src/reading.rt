@@ -9,7 +9,6 @@ ghost use Rattle.lan_model.specs.Table.{AreColumns};
 ghost use Rattle.lan_form.specs.declared.faults.FormFault.TheVariants.{Form};
 ghost use Rattle.lan_schema.specs.Logical.{leaf_type};
 ghost use Rattle.lan_form.specs.Form.{known, typed, field_form, item_form, fields_form, list_form, form, form_of_field};
-ghost use Rattle.lan_form.specs.Items.{HasNamedItems, HaveNamedItems};
 ghost use Rattle.lan_form.specs.Numbers.{CountsFrom, CountFrom, FieldCounted, TypeCounted, AllCounted};
 
 use crate::faults::FormFault;
@@ -33,7 +32,6 @@ pub fn from_json(alloc: Global, text: &str) -> Result<FieldList, FormFault>
     ensures fields { IfOk result (λ fs. form text.now ≡ Ok (map column_of fs)) }
     ensures ids { IfOk result (λ fs. CountFrom 0 (plain_fields fs)) }
     ensures columns { IfOk result (λ fs. AreColumns (map column_of fs)) }
-    ensures items { IfOk result (λ fs. HaveNamedItems (fields_from (map column_of fs))) }
     ensures fault { IfErr result (λ e. (e ≡ FormFault.Memory) ⊎ (form text.now ≡ Err e)) }
 {
     let value = read_value(alloc, text)?;
@@ -49,7 +47,6 @@ pub fn field_from_json(alloc: Global, text: &str) -> Result<Field, FormFault>
     ensures field { IfOk result (λ f. form_of_field text.now ≡ Ok (column_of f)) }
     ensures ids { IfOk result (λ f. CountsFrom 0 (plain_field f)) }
     ensures columns { IfOk result (λ f. AreColumns (column_of f ∷ [])) }
-    ensures items { IfOk result (λ f. HasNamedItems (column_of f)) }
     ensures fault { IfErr result (λ e. (e ≡ FormFault.Memory) ⊎ (form_of_field text.now ≡ Err e)) }
 {
     let value = read_value(alloc, text)?;

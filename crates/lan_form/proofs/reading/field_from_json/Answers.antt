@@ -26,6 +26,3 @@ returns-clause-columns c =
     let f = c.in_ok-field.field in
     columns_formed (column_of f ∷ []) (alone_good (column_of f) (field_ok (view c.in_ok-value.value) (column_of f) c.in_ok-field.ensures.ok))
     (subst (λ l. within (map column_of l) ≡ Ok (map column_of l)) c.from_ref.ensures.value c.in_ok-within.ensures.ok)
-
-pub returns-clause-items : goal.returns-clause-items
-returns-clause-items c = (field_ok (view c.in_ok-value.value) (column_of c.in_ok-field.field) c.in_ok-field.ensures.ok).2

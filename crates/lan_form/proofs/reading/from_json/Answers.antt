@@ -27,6 +27,3 @@ returns-clause-columns c =
     let fs = c.in_ok-fields.fields in
     columns_formed (map column_of fs) (list_ok (view c.in_ok-value.value) (map column_of fs) c.in_ok-fields.ensures.ok)
     (subst (λ l. within (map column_of l) ≡ Ok (map column_of l)) c.as_slice.ensures c.in_ok-within.ensures.ok)
-
-pub returns-clause-items : goal.returns-clause-items
-returns-clause-items c = (list_ok (view c.in_ok-value.value) (map column_of c.in_ok-fields.fields) c.in_ok-fields.ensures.ok).2

@@ -3,3 +3,4 @@ pub mod Offsets
 pub mod Cuts
 pub mod BoolBytes
 pub mod Ends
+pub mod BuiltRead

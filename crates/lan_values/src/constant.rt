@@ -25,7 +25,8 @@ impl<'a> Model for ConstView<'a> {
 impl<'a> ConstView<'a> {
     /// `n` times this piece; of a bool it is the bit.
     pub fn new(value: Piece<'a>, n: u64) -> ConstView<'a>
-        ensures { result ≡ same_values (plain_piece value.entry) n }
+        ensures value { result ≡ same_values (plain_piece value.entry) n }
+        ensures count { length result ≡ n }
     {
         ConstView { value, count: n }
     }

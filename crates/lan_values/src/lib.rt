@@ -6,6 +6,7 @@ mod constant;
 mod fault;
 mod flat;
 mod gathering;
+pub mod laws;
 mod variable;
 
 pub use bools::{BoolView, put_bools};

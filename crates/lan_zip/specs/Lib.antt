@@ -1,3 +1,4 @@
 pub mod Form
 pub mod Spelled
 pub mod Written
+pub mod Inverse

@@ -3,6 +3,7 @@
 
 mod fault;
 mod form;
+pub mod laws;
 mod page;
 mod step;
 mod view;
@@ -10,3 +11,6 @@ mod view;
 pub use fault::ZipFault;
 pub use page::build_page;
 pub use view::{ZipSlots, ZipView};
+
+#[cfg(test)]
+mod tests;

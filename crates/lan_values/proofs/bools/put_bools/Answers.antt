@@ -1,4 +1,4 @@
-use Rattle.std.proofs.Common.{rules, ◌≡◌, ◌∙◌, ◌++◌, ◌∷◌, [], ◌%◌, ◌<◌, ap, arith, ℕ}
+use Rattle.std.proofs.Common.{rules, ◌≡◌, ◌∙◌, ◌%◌, ◌<◌, arith}
 use Rattle.lan_values.proofs.BoolBytes.{none_yet, one_more}
 use Rattle.lan_values.proofs.bools.put_bools.Goals as goal
 

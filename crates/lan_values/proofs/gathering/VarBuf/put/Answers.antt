@@ -1,6 +1,5 @@
-use Rattle.std.proofs.Common.{◌≡◌, ◌+◌, ◌*◌, length, arith, ap, sym, List, ℕ}
+use Rattle.std.proofs.Common.{length, arith, ap, List, ℕ}
 use Rattle.std.specs.List.{concat}
-use Rattle.lan_values.specs.Built.{cut_by}
 use Rattle.lan_values.proofs.Cuts.{concat_cut, count_cut}
 use Rattle.lan_values.proofs.gathering.VarBuf.put.Goals as goal
 

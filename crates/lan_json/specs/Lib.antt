@@ -1,0 +1,8 @@
+pub mod Judged
+pub mod Bits
+pub mod Values
+pub mod Fitting
+pub mod Line
+pub mod Laws
+pub mod Lines
+pub mod Why

@@ -1,0 +1,178 @@
+use crate::{LinesFault, print_row, read_row, read_rows, why, why_line};
+use lan_model::{Blob, Boxed, Field, FieldList, Primitive, Text, Ty, Val};
+use std::alloc::{AllocError, Global};
+use std::test::Fail;
+
+fn field(alloc: Global, name: &str, nullable: bool, ty: Ty) -> Result<Field, AllocError> {
+    Ok(Field {
+        id: 0,
+        name: Text::of(alloc, name)?,
+        nullable,
+        ty,
+    })
+}
+
+// The fields of a case, by its number.
+fn fields_of(alloc: Global, case: u64) -> Result<FieldList, AllocError> {
+    let mut fields = FieldList::new(alloc);
+    match case {
+        0 => {
+            fields.push(field(alloc, "f", false, Ty::Bits(Primitive::Float))?)?;
+            fields.push(field(alloc, "b", false, Ty::Bytes)?)?;
+            fields.push(field(alloc, "t", false, Ty::Text)?)?;
+        }
+        1 => fields.push(field(alloc, "v", false, Ty::Vector(Primitive::Int16, 2))?)?,
+        2 => {
+            let item = Boxed::new(
+                alloc,
+                field(alloc, "item", true, Ty::Bits(Primitive::Int32))?,
+            )?;
+            fields.push(field(alloc, "id", false, Ty::Bits(Primitive::Int64))?)?;
+            fields.push(field(alloc, "tags", true, Ty::List(item))?)?;
+            fields.push(field(alloc, "note", true, Ty::Text)?)?;
+        }
+        _ => {
+            let mut members = FieldList::new(alloc);
+            members.push(field(alloc, "a", false, Ty::Bits(Primitive::Int8))?)?;
+            members.push(field(alloc, "b", true, Ty::Bits(Primitive::Bool))?)?;
+            fields.push(field(alloc, "s", true, Ty::Struct(members))?)?;
+        }
+    }
+    Ok(fields)
+}
+
+// The line that is printed for the row of a line, or why it is none.
+fn through(alloc: Global, case: u64, line: &str) -> Result<Blob, AllocError> {
+    let fields = fields_of(alloc, case)?;
+    let mut out = Blob::new(alloc);
+    match read_row(alloc, &fields, line.as_bytes()) {
+        Ok(row) => print_row(alloc, &fields, &row, &mut out)?,
+        Err(fault) => out.extend(why(alloc, &fault)?.as_slice())?,
+    }
+    Ok(out)
+}
+
+fn line_of(case: u64) -> (u64, &'static str, &'static str) {
+    match case {
+        0 => (
+            0,
+            "{\"t\":\"a\\\"\\n\\u0001\\u00e9\",\"f\":\"3F800000\",\"b\":\"0aFF\"}",
+            "{\"f\":\"3f800000\",\"b\":\"0aff\",\"t\":\"a\\\"\\n\\u0001\u{e9}\"}\n",
+        ),
+        1 => (
+            0,
+            "{\"f\":\"3f800000\",\"b\":\"0aff\",\"t\":\"a\\\"\\n\\u0001\u{e9}\"}",
+            "{\"f\":\"3f800000\",\"b\":\"0aff\",\"t\":\"a\\\"\\n\\u0001\u{e9}\"}\n",
+        ),
+        2 => (1, "{\"v\":[1,-1]}", "{\"v\":[1,-1]}\n"),
+        3 => (
+            2,
+            "{\"tags\":[1,null,3],\"id\":12345}",
+            "{\"id\":12345,\"tags\":[1,null,3],\"note\":null}\n",
+        ),
+        4 => (
+            3,
+            " {\"s\":{\"a\":-128}} \r",
+            "{\"s\":{\"a\":-128,\"b\":null}}\n",
+        ),
+        5 => (2, "{\"id\":1", "not JSON"),
+        6 => (2, "[1]", "not an object"),
+        7 => (2, "{\"tags\":[]}", "no key \"id\""),
+        8 => (3, "{\"s\":{\"b\":true}}", "no key \"a\""),
+        9 => (2, "{\"id\":1,\"a\\\"\":2,\"z\":3}", "stray key \"a\\\"\""),
+        10 => (2, "{\"id\":1.0,\"z\":3}", "wrong kind in \"id\""),
+        11 => (3, "{\"s\":{\"a\":128}}", "out of range in \"s\""),
+        12 => (1, "{\"v\":[1,null]}", "null in \"v\""),
+        13 => (1, "{\"v\":[null]}", "wrong count in \"v\""),
+        14 => (
+            0,
+            "{\"f\":\"3F80000g\",\"b\":\"\",\"t\":\"\"}",
+            "bad hex in \"f\"",
+        ),
+        _ => (
+            0,
+            "{\"f\":\"3F800000\",\"b\":\"0\",\"t\":\"\"}",
+            "bad hex in \"b\"",
+        ),
+    }
+}
+
+#[test]
+fn lines_are_rows(rt: HostRuntime) -> Result<(), Fail> {
+    for case in 0..16 {
+        let (fields, line, printed) = line_of(case);
+        let got = through(rt.alloc(), fields, line)?;
+        assert_eq!(rt; got.as_slice(), printed.as_bytes(), "of {line}");
+    }
+    Ok(())
+}
+
+// A line whose one text has so many letters.
+fn long_line(alloc: Global, letters: usize) -> Result<Text, AllocError> {
+    let mut line = Text::of(alloc, "{\"id\":1,\"note\":\"")?;
+    for _ in 0..letters / 64 {
+        line.push("abcdefghabcdefghabcdefghabcdefghabcdefghabcdefghabcdefghabcdefgh")?;
+    }
+    for _ in 0..letters % 64 {
+        line.push("a")?;
+    }
+    line.push("\"}")?;
+    Ok(line)
+}
+
+#[test]
+fn texts_end_at_2_to_the_24(rt: HostRuntime) -> Result<(), Fail> {
+    let alloc = rt.alloc();
+    let whole = through(alloc, 2, long_line(alloc, 1 << 24)?.as_str())?;
+    assert_eq!(rt; whole.len(), 16777216 + 31);
+    let longer = through(alloc, 2, long_line(alloc, (1 << 24) + 1)?.as_str())?;
+    assert_eq!(rt; longer.as_slice(), "value too long in \"note\"".as_bytes());
+    Ok(())
+}
+
+#[test]
+fn vectors_are_bytes(rt: HostRuntime) -> Result<(), Fail> {
+    let alloc = rt.alloc();
+    let row = read_row(alloc, &fields_of(alloc, 1)?, "{\"v\":[1,-1]}".as_bytes())?;
+    if let [Val::Raw(bytes)] = row.as_slice() {
+        assert_eq!(rt; bytes.as_slice(), [1, 0, 255, 255].as_slice());
+    } else {
+        assert!(rt; false);
+    }
+    Ok(())
+}
+
+// The count of rows, or the line and the words of its fault.
+fn read(alloc: Global, input: &str) -> Result<(u64, Text), AllocError> {
+    match read_rows(alloc, &fields_of(alloc, 2)?, input.as_bytes()) {
+        Ok(rows) => Ok((rows.len(), Text::new(alloc))),
+        Err(fault) => {
+            let words = why_line(alloc, &fault)?;
+            let line = match fault {
+                LinesFault::Bad(line, _) | LinesFault::LineTooLong(line) => line,
+                LinesFault::Memory => 0,
+            };
+            Ok((line, words))
+        }
+    }
+}
+
+fn input_of(case: u64) -> (&'static str, u64, &'static str) {
+    match case {
+        0 => ("", 0, ""),
+        1 => ("{\"id\":1}\n{\"id\":2}", 2, ""),
+        2 => ("{\"id\":1}\n\n", 2, "not JSON"),
+        _ => ("{\"id\":1}\n{}\nx\n", 2, "no key \"id\""),
+    }
+}
+
+#[test]
+fn inputs_are_cut_at_newlines(rt: HostRuntime) -> Result<(), Fail> {
+    for case in 0..4 {
+        let (input, number, words) = input_of(case);
+        let got = read(rt.alloc(), input)?;
+        assert_eq!(rt; got.0, number, "of {input}");
+        assert_eq!(rt; got.1.as_str(), words, "of {input}");
+    }
+    Ok(())
+}

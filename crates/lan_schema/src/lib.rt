@@ -34,3 +34,4 @@ pub use reading_laws::{no_fields_where_a_fault_stands, one_list_of_fields};
 pub use renumbering::renumber;
 pub use trees::write_fields;
 pub use writing::write_entry;
+pub use writing_laws::written_fields_are_read;

@@ -1,5 +1,5 @@
 -- A message stands for one list of fields, and for none where a fault stands.
-use Rattle.std.proofs.Common.{◌≡◌, ℕ, ◌<◌, ◌≤◌, Bool, true, false, cond, List, [], ◌∷◌, ◌++◌, Result, Ok, Err, refl, sym, ap, subst, ◌∙◌, arith, inl, inr}
+use Rattle.std.proofs.Common.{◌≡◌, ℕ, Bool, true, false, cond, List, [], ◌∷◌, ◌++◌, Result, Ok, Err, refl, sym, ap, subst, ◌∙◌, arith, inl, inr}
 use Rattle.std.specs.Prelude.{ℤ, negsuc, nat_eq, ◌&&◌}
 use Rattle.std.proofs.lemmas.Bool.{true≢false}
 use Rattle.std.proofs.lemmas.List.Elements.{filter-append}
@@ -7,7 +7,6 @@ use Rattle.lan_bytes.specs.Placed.{Placed}
 use Rattle.lan_model.specs.Plain.{PlainFields}
 use Rattle.lan_wire.specs.declared.item.WireFault.{WireFault}
 use Rattle.lan_wire.specs.declared.item.Item.{Item}
-use Rattle.lan_wire.specs.Readers.{placed_of}
 use Rattle.lan_wire.proofs.FaultsHold.{no_items}
 use Rattle.lan_wire.proofs.MessageLaws.{items_unique, given_rest, begins_first}
 use Rattle.lan_schema.specs.declared.fault.SchemaFault.{SchemaFault}

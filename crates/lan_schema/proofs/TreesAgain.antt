@@ -1,5 +1,5 @@
 -- The trees of fields stand for them.
-use Rattle.std.proofs.Common.{◌≡◌, ℕ, ◌^◌, ◌<◌, ◌≤◌, refl, sym, ap, subst, ◌∙◌, arith, pos, negsuc, List, Bool}
+use Rattle.std.proofs.Common.{◌≡◌, ℕ, refl, ap, ◌∙◌, arith, List, Bool}
 use Rattle.std.specs.Prelude.{Option, Some, option_map}
 use Rattle.lan_model.specs.declared.tree.Primitive.{Primitive}
 use Rattle.lan_model.specs.declared.tree.Primitive.TheVariants as kind
@@ -8,9 +8,8 @@ use Rattle.lan_model.specs.Table.{IsField, AreFields}
 use Rattle.lan_schema.specs.declared.shape.Shape.{Shape}
 use Rattle.lan_schema.specs.declared.shape.Shape.TheVariants as shape
 use Rattle.lan_schema.specs.FieldTree.{name_of, logical_of, list_name, signed}
-use Rattle.lan_schema.specs.FieldsOf.{typed, type_of, natural, labelled, with_others, with_members, fields_of}
-use Rattle.lan_schema.specs.Forest.{Label, Trees, none, tree}
-use Rattle.lan_schema.specs.Logical.{leaf_type, IsLeafType}
+use Rattle.lan_schema.specs.FieldsOf.{typed, type_of, labelled, with_others, with_members, fields_of}
+use Rattle.lan_schema.specs.Forest.{Label, Trees, none}
 use Rattle.lan_schema.specs.Shapes.{shape_of}
 use Rattle.lan_schema.specs.Written.{trees_in, tree_before, trees_of, CanTellType, CanTell, CanTellAll}
 use Rattle.lan_schema.proofs.WrittenTrees.{natural_again}

@@ -1,10 +1,9 @@
 -- What is written of fields stands for them.
-use Rattle.std.proofs.Common.{◌≡◌, ℕ, refl, sym, ap, ◌∙◌, negsuc}
-use Rattle.std.specs.Prelude.{Some, Option}
+use Rattle.std.proofs.Common.{ℕ, ap, ◌∙◌, negsuc}
 use Rattle.lan_model.specs.Plain.{PlainFields}
 use Rattle.lan_schema.specs.FieldTree.{all_messages}
 use Rattle.lan_schema.specs.FieldsOf.{FieldsOf, fields_of}
-use Rattle.lan_schema.specs.Forest.{Trees, laid}
+use Rattle.lan_schema.specs.Forest.{laid}
 use Rattle.lan_schema.specs.Written.{trees_of, IsWritable}
 use Rattle.lan_schema.proofs.ForestLaws.{forest_again}
 use Rattle.lan_schema.proofs.WrittenTrees.{written_says, top_absent}

@@ -1,8 +1,7 @@
 -- What is written of fields is their trees laid flat, which stand for the fields again.
-use Rattle.std.proofs.Common.{◌≡◌, ℕ, ◌+◌, ◌^◌, ◌<◌, ◌≤◌, Bool, true, false, cond, List, [], ◌∷◌, ◌++◌, length, length-append, refl, sym, ap, subst, ◌∙◌, arith, w32, pos, negsuc}
-use Rattle.std.specs.Prelude.{ℤ, IsTrue, nat_eq, codes, decimal, Option, Some, option_map}
-use Rattle.std.specs.Int.{cast_signed}
-use Rattle.std.specs.Str.{is_utf8, IsUtf8, IsAscii}
+use Rattle.std.proofs.Common.{◌≡◌, ℕ, ◌+◌, ◌^◌, ◌<◌, ◌≤◌, Bool, true, false, cond, List, [], ◌∷◌, ◌++◌, length, length-append, refl, sym, ap, subst, ◌∙◌, arith, pos, negsuc}
+use Rattle.std.specs.Prelude.{ℤ, IsTrue, nat_eq, codes, decimal}
+use Rattle.std.specs.Str.{is_utf8, IsUtf8}
 use Rattle.std.proofs.lemmas.Int.{ints}
 use Rattle.std.proofs.lemmas.Fmt.{IsAscii-decimal}
 use Rattle.std.proofs.lemmas.List.{append-nil}
@@ -26,12 +25,9 @@ use Rattle.lan_wire.proofs.WrittenLaws.{part_spelled}
 use Rattle.lan_schema.specs.FieldMessage.{Flat, field_text, flag, IsFlat}
 use Rattle.lan_schema.specs.FieldMessages.{of_number, SaysItem, SayAll, SaysFields}
 use Rattle.lan_schema.specs.FieldTree.{name_of, list_name, logical_of, kind_of, signed, field_messages, inside_messages, all_messages}
-use Rattle.lan_schema.specs.FieldsOf.{type_of, natural, labelled, with_members, fields_of}
-use Rattle.lan_schema.specs.Forest.{Label, Trees, none, tree, under, laid, Absent}
-use Rattle.lan_schema.specs.Logical.{leaf_type}
-use Rattle.lan_schema.specs.Shapes.{shape_of}
+use Rattle.lan_schema.specs.FieldsOf.{natural}
+use Rattle.lan_schema.specs.Forest.{Trees, none, laid, Absent}
 use Rattle.lan_schema.specs.Written.{trees_in, tree_before, trees_of, CanTellType, CanTell, CanTellAll}
-use Rattle.lan_schema.specs.declared.shape.Shape.TheVariants as shape
 use Rattle.lan_schema.proofs.ForestLaws.{nat_same}
 use Rattle.lan_schema.proofs.ReadBack.{read_back}
 

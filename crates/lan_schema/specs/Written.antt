@@ -1,5 +1,5 @@
 -- Fields as the writer lists them: depth first, each with its parent's number.
-use Rattle.std.specs.Prelude.{ℕ, ◌^◌, ◌<◌, ⊤, List, length, negsuc}
+use Rattle.std.specs.Prelude.{ℕ, ◌^◌, ◌<◌, ⊤, length, negsuc}
 use Rattle.std.specs.Str.{IsUtf8}
 use Rattle.lan_model.specs.Plain.{PlainType, list, struct, PlainField, field, PlainFields, no_fields, one_field}
 use Rattle.lan_model.specs.Table.{AreFields}

@@ -21,7 +21,7 @@ members_in (list item) = one_field item no_fields
 members_in (struct members) = members
 members_in _ = no_fields
 
-shape_list : (f : PlainField ℕ) → shape_of (list_name f) ≡ shape.List
+pub shape_list : (f : PlainField ℕ) → shape_of (list_name f) ≡ shape.List
 unfolding shape_of
 shape_list (field id name nullable (primitive q)) = refl
 shape_list (field id name nullable (vector q n)) = refl
@@ -30,7 +30,7 @@ shape_list (field id name nullable bytes) = refl
 shape_list (field id name nullable (list item)) = refl
 shape_list (field id name nullable (struct members)) = refl
 
-shape_name : (q : Primitive) → shape_of (name_of q) ≡ shape.Leaf
+pub shape_name : (q : Primitive) → shape_of (name_of q) ≡ shape.Leaf
 unfolding shape_of
 shape_name kind.Bool = refl
 shape_name kind.Int8 = refl
@@ -46,19 +46,19 @@ shape_name kind.Float = refl
 shape_name kind.Double = refl
 shape_name kind.Date = refl
 
-shape_vector : (q : Primitive) (n : ℕ) → shape_of (logical_of (vector q n)) ≡ shape.Leaf
+pub shape_vector : (q : Primitive) (n : ℕ) → shape_of (logical_of (vector q n)) ≡ shape.Leaf
 unfolding shape_of
 shape_vector q n = refl
 
-shape_text : shape_of (logical_of text) ≡ shape.Leaf
+pub shape_text : shape_of (logical_of text) ≡ shape.Leaf
 unfolding shape_of
 shape_text = refl
 
-shape_bytes : shape_of (logical_of bytes) ≡ shape.Leaf
+pub shape_bytes : shape_of (logical_of bytes) ≡ shape.Leaf
 unfolding shape_of
 shape_bytes = refl
 
-shape_struct : (members : PlainFields ℕ) → shape_of (logical_of (struct members)) ≡ shape.Struct
+pub shape_struct : (members : PlainFields ℕ) → shape_of (logical_of (struct members)) ≡ shape.Struct
 unfolding shape_of
 shape_struct members = refl
 

@@ -1,11 +1,10 @@
 -- Fields as the writer lists them: depth first, each with its parent's number.
-use Rattle.std.specs.Prelude.{ℕ, ◌^◌, ◌<◌, ⊤, length, negsuc}
+use Rattle.std.specs.Prelude.{ℕ, ◌^◌, ◌<◌, ◌≤◌, ⊤, length, negsuc, All}
 use Rattle.std.specs.Str.{IsUtf8}
 use Rattle.lan_model.specs.Plain.{PlainType, list, struct, PlainField, field, PlainFields, no_fields, one_field}
-use Rattle.lan_model.specs.Table.{AreFields}
-use Rattle.lan_schema.specs.FieldsOf.{ObeyRules}
+use Rattle.lan_model.specs.Table.{AreNamed, AreFields, HaveNamedItems, all_depths}
 use Rattle.lan_schema.specs.FieldTree.{all_messages, logical_of, signed}
-use Rattle.lan_schema.specs.Forest.{Trees, none, tree, laid, AreDistinct}
+use Rattle.lan_schema.specs.Forest.{Trees, none, tree, AreDistinct}
 
 abbrev mutual
   -- the trees of the fields inside a type
@@ -38,12 +37,19 @@ abbrev mutual
   CanTellAll no_fields = ⊤
   CanTellAll (one_field f fs) = CanTell f × CanTellAll fs
 
--- fields that the writer may write under a number of a message, and that a reader takes
+-- fields that a table may have, with their numbers or without
+pub record AreTableFields {I : Type 0} (fields : PlainFields I) : Type 0 where
+  pub named : AreNamed fields
+  pub each : AreFields fields
+  pub items : HaveNamedItems fields
+  pub leaves : length (all_depths fields 0) ≤ 1024
+  pub layers : All (λ depth. depth ≤ 16) (all_depths fields 0)
+
+-- fields of a table that the writer may write under a number of a message: each has a number of its own
 pub record IsWritable (number : ℕ) (fields : PlainFields ℕ) : Type 0 where
   pub low : 0 < number
   pub up : number < 2 ^ 29
   pub fits : length (all_messages number (negsuc 0) fields) < 2 ^ 63
   pub told : CanTellAll fields
-  pub types : AreFields fields
+  pub table : AreTableFields fields
   pub apart : AreDistinct (trees_of fields)
-  pub rules : ObeyRules (laid (negsuc 0) (trees_of fields))

@@ -34,4 +34,7 @@ pub use reading_laws::{no_fields_where_a_fault_stands, one_list_of_fields};
 pub use renumbering::renumber;
 pub use trees::write_fields;
 pub use writing::write_entry;
-pub use writing_laws::written_fields_are_read;
+pub use writing_laws::{
+    columns_are_fields_of_a_table, fields_that_are_read_are_of_a_table,
+    fields_that_are_read_are_written_back, written_fields_are_read,
+};

@@ -1,5 +1,3 @@
-use Rattle.lan_schema.proofs.ReadTable.{tellable}
-use Rattle.lan_schema.proofs.ForestRules.{forest_rules}
 use Rattle.lan_schema.proofs.WrittenFields.{written_read}
 use Rattle.lan_schema.proofs.writing_laws.written_fields_are_read.Goals as goal
 

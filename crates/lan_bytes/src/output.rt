@@ -1,4 +1,4 @@
-ghost use Rattle.std.specs.Prelude.{◌≡◌, ◌⊎◌, ◌^◌, ◌<◌, ◌++◌, [], length, replicate, OnOk, OnErr};
+ghost use Rattle.std.specs.Prelude.{◌≡◌, ◌⊎◌, ◌^◌, ◌<◌, ◌++◌, [], length, take, replicate, OnOk, OnErr};
 ghost use Rattle.lan_bytes.specs.Numbers.{low_first};
 
 use std::alloc::{AllocError, Global};
@@ -64,6 +64,15 @@ impl Out {
         // No vector is as long as the greatest length, so a sum that is too great finds no memory.
         let len = self.bytes.len().saturating_add(n as usize);
         self.bytes.resize(len, 0)
+    }
+
+    /// Keeps the first `len` bytes, or all where there are no more.
+    pub fn truncate(&mut self, len: u64)
+        ensures { self.new ≡ take len self.old }
+    {
+        if len < self.len() {
+            self.bytes.truncate(len as usize);
+        }
     }
 
     /// The bytes, as they are: nothing is copied.

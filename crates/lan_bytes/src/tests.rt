@@ -18,7 +18,8 @@ fn written(alloc: Global) -> Result<Vec<u8>, AllocError> {
     out.num(1, 4)?;
     out.num(2, 2)?;
     out.num(1, 2)?;
-    out.bytes(b"LANC")?;
+    out.bytes(b"LANCE")?;
+    out.truncate(40);
     Ok(out.finish())
 }
 

@@ -5,9 +5,10 @@ use Rattle.std.proofs.lemmas.Nat.{from_le_bytes-to_le_bytes_4}
 use Rattle.std.specs.Int.{w32}
 use Rattle.std.specs.List.{concat}
 use Rattle.lan_bytes.specs.Numbers.{number_at}
-use Rattle.lan_levels.specs.PlainSlots.{PlainPiece, bytes}
-use Rattle.lan_values.specs.Values.{variable, offset, value_at, each_from, IsVariable, ValuesOf}
+use Rattle.lan_levels.specs.PlainSlots.{bytes}
+use Rattle.lan_values.specs.Values.{variable, offset, value_at, IsVariable, ValuesOf}
 use Rattle.lan_values.specs.Built.{four_bytes, ends_bytes, variable_bytes}
+use Rattle.lan_values.proofs.Each.{each_map}
 
 four_length : (n : ℕ) → length (four_bytes n) ≡ 4
 unfolding four_bytes
@@ -115,19 +116,10 @@ is_variable values few =
       last = offset_is values (length values) (omega arith) few ∙ ap (λ (n : ℕ). first + n) whole ∙ sym size;
     }
 
-each_is : (f : ℕ → PlainPiece) (i : ℕ) (vs : List (List ℕ)) → ((k : ℕ) (v : List ℕ) → k < length vs → slice_get vs k ≡ Some v → f (i + k) ≡ bytes v) → map bytes vs ≡ each_from f i (length vs)
-unfolding each_from
-each_is f i [] h = refl
-each_is f i (v ∷ vs) h =
-    let e : i + 0 ≡ i = omega arith in
-    let here : bytes v ≡ f i = sym (ap f (sym e) ∙ h 0 v (omega arith) refl) in
-    ap₂ (λ (x : PlainPiece) (xs : List PlainPiece). x ∷ xs) here
-    (each_is f (i + 1) vs (λ k w lt g. let j : i + 1 + k ≡ i + suc k = omega arith in ap f j ∙ h (suc k) w (omega arith) g))
-
 -- the buffer that values of any length are put into is a buffer of them
 pub variable_read : (values : List (List ℕ)) → 4 * (length values + 1) + length (concat values) < 2 ^ 32 → ValuesOf variable (length values) (variable_bytes values) (map bytes values)
 variable_read values few = record {
   buffer = is_variable values few;
-  are = each_is (value_at variable (variable_bytes values)) 0 values (λ k v lt e. let z : 0 + k ≡ k = omega arith in ap (value_at variable (variable_bytes values)) z ∙ value_is values k v lt e few);
+  are = each_map bytes (value_at variable (variable_bytes values)) 0 values (λ k v lt e. let z : 0 + k ≡ k = omega arith in ap (value_at variable (variable_bytes values)) z ∙ value_is values k v lt e few);
   count = length-map values bytes;
 }

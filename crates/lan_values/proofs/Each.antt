@@ -1,5 +1,5 @@
 -- The length and the items of what successive numbers give.
-use Rattle.std.proofs.Common.{◌≡◌, ℕ, zero, suc, ◌+◌, ◌*◌, ◌<◌, ◌≤◌, List, length, refl, ap, sym, ◌∙◌, arith}
+use Rattle.std.proofs.Common.{◌≡◌, ℕ, zero, suc, ◌+◌, ◌*◌, ◌<◌, ◌≤◌, List, [], ◌∷◌, length, map, refl, ap, ap₂, sym, ◌∙◌, arith}
 use Rattle.std.specs.Prelude.{slice_get, Some}
 use Rattle.std.proofs.Math.Nat.{mul-le-mul_left, mul-suc}
 use Rattle.lan_levels.specs.PlainSlots.{PlainPiece}
@@ -38,3 +38,13 @@ values_are encoding n all h = record { buffer = h; are = refl; count = length-ea
 
 pub flat_room : (width n i size : ℕ) → size ≡ width * n → i < n → width * i + width ≤ size
 flat_room width n i size e lt = let le : width * suc i ≤ width * n = mul-le-mul_left width lt in omega (arith, mul-suc width i)
+
+-- what successive numbers give, where each gives what the item of that number does
+pub each_map : {X : Type 0} (g : X → PlainPiece) (f : ℕ → PlainPiece) (i : ℕ) (vs : List X) → ((k : ℕ) (v : X) → k < length vs → slice_get vs k ≡ Some v → f (i + k) ≡ g v) → map g vs ≡ each_from f i (length vs)
+unfolding each_from
+each_map g f i [] h = refl
+each_map g f i (v ∷ vs) h =
+    let e : i + 0 ≡ i = omega arith in
+    let here : g v ≡ f i = sym (ap f (sym e) ∙ h 0 v (omega arith) refl) in
+    ap₂ (λ (x : PlainPiece) (xs : List PlainPiece). x ∷ xs) here
+    (each_map g f (i + 1) vs (λ k w lt q. let j : i + 1 + k ≡ i + suc k = omega arith in ap f j ∙ h (suc k) w (omega arith) q))

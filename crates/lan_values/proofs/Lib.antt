@@ -4,3 +4,5 @@ pub mod Cuts
 pub mod BoolBytes
 pub mod Ends
 pub mod BuiltRead
+pub mod FlatRead
+pub mod BoolsRead

@@ -1,5 +1,5 @@
 -- The bytes of buffers that are built.
-use Rattle.std.specs.Prelude.{◌≡◌, ℕ, zero, suc, ◌+◌, ◌*◌, ◌/◌, ◌≤◌, Bool, true, false, List, [], ◌∷◌, ◌++◌, length, map, take, drop}
+use Rattle.std.specs.Prelude.{ℕ, zero, suc, ◌+◌, ◌*◌, Bool, true, false, List, [], ◌∷◌, ◌++◌, length, map, take, drop}
 use Rattle.std.specs.List.{concat}
 use Rattle.lan_bytes.specs.Numbers.{low_first}
 
@@ -16,10 +16,6 @@ byte_of (b ∷ bs) = digit_of b + 2 * byte_of bs
 unfoldable pub bool_bytes : ℕ → List Bool → List ℕ
 bool_bytes zero values = []
 bool_bytes (suc n) values = byte_of (take 8 values) ∷ bool_bytes n (drop 8 values)
-
--- the bytes have grown by a front of the bools' bytes
-abbrev pub GrewByFront : List ℕ → List ℕ → List Bool → Type 0
-GrewByFront old new values = (n : ℕ) × (n ≤ (length values + 7) / 8) × (new ≡ old ++ bool_bytes n values)
 
 -- a number in four bytes, the lowest first
 unfoldable pub four_bytes : ℕ → List ℕ

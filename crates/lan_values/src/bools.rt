@@ -1,7 +1,7 @@
 ghost use Rattle.std.specs.Prelude.{◌≡◌, ◌+◌, ◌/◌, ◌^◌, ◌++◌, ◌<◌, ◌≤◌, length, take, drop, slice_get, Some, IfOk, IfErr, OnOk, OnErr};
 ghost use Rattle.lan_levels.specs.PlainSlots.{plain_piece};
 ghost use Rattle.lan_values.specs.Values.{bools, IsBuffer, ValuesOf, Stands};
-ghost use Rattle.lan_values.specs.Built.{byte_of, bool_bytes, GrewByFront};
+ghost use Rattle.lan_values.specs.Built.{byte_of, bool_bytes};
 
 use crate::fault::ValueFault;
 use lan_bytes::{Out, View};
@@ -64,11 +64,22 @@ fn bytes_for(n: u64) -> u64
 }
 
 /// Appends the buffer of these bools, with zeros for the bits that none of them uses.
-///
-/// After an error `out` ends with a front of the buffer.
 pub fn put_bools(out: &mut Out, values: &[bool]) -> Result<(), AllocError>
     ensures ok { OnOk result (out.new ≡ out.old ++ bool_bytes ((length values.now + 7) / 8) values.now) }
-    ensures err { OnErr result (GrewByFront out.old out.new values.now) }
+    ensures err { OnErr result (out.new ≡ out.old) }
+{
+    let len = out.len();
+    let put = put_bytes(out, values);
+    if put.is_err() {
+        out.truncate(len);
+    }
+    put
+}
+
+/// Appends the bytes of these bools; after an error, some of them.
+fn put_bytes(out: &mut Out, values: &[bool]) -> Result<(), AllocError>
+    ensures ok { OnOk result (out.new ≡ out.old ++ bool_bytes ((length values.now + 7) / 8) values.now) }
+    ensures err { OnErr result (take (length out.old) out.new ≡ out.old) }
 {
     for i in 0..bytes_for(values.len() as u64) as usize {
         out.num(u64::from(byte_of(eight_from(values, 8 * i))), 1)?;

@@ -1,5 +1,5 @@
 -- The slot at the front of bytes.
-use Rattle.std.proofs.Common.{◌≡◌, ◌==◌, not, ℕ, ◌+◌, ◌-◌, ◌/◌, ◌%◌, ◌^◌, ◌<◌, ◌≤◌, Bool, true, false, cond, List, [], ◌∷◌, Option, Some, None, length, take, drop, slice_get, refl, ap, sym, ◌∙◌, arith, length-drop}
+use Rattle.std.proofs.Common.{◌≡◌, ◌==◌, not, ℕ, ◌+◌, ◌/◌, ◌%◌, ◌^◌, ◌<◌, ◌≤◌, Bool, true, false, cond, List, [], ◌∷◌, Option, Some, None, length, take, drop, slice_get, refl, ap, sym, ◌∙◌, arith, length-drop}
 use Rattle.std.proofs.lemmas.Bool.{le-ltb, lt-ltb, ltb-false}
 use lib.Dec.{ltb}
 use Rattle.std.specs.Int.{w32}
@@ -10,7 +10,7 @@ use Rattle.lan_levels.specs.PlainSlots.{PlainSlot, bytes, bit, nothing}
 use Rattle.lan_zip.specs.declared.form.ValueForm.{ValueForm}
 use Rattle.lan_zip.specs.declared.form.ValueForm.TheVariants as value
 use Rattle.lan_zip.specs.Form.{PlainForm}
-use Rattle.lan_zip.specs.Spelled.{Valued, Read, cut, level, slot, sized_part, value_part, kept, is_bare, slot_value, word_number, with_value, with_state, with_word, first_slot}
+use Rattle.lan_zip.specs.Spelled.{Valued, cut, level, slot, sized_part, value_part, kept, is_bare, slot_value, word_number, with_value, with_state, with_word, first_slot}
 
 pub word_cut : (f : PlainForm) (all : List ℕ) → length all < f.word → cut ≡ first_slot f all
 unfolding first_slot

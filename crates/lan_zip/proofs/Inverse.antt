@@ -1,13 +1,12 @@
 -- What is written is read.
-use Rattle.std.proofs.Common.{◌≡◌, ◌==◌, not, ℕ, zero, suc, ◌+◌, ◌-◌, ◌*◌, ◌/◌, ◌%◌, ◌^◌, ◌<◌, ◌≤◌, Bool, true, false, cond, List, [], ◌∷◌, ◌++◌, Option, Some, None, length, take, drop, replicate, slice_get, All, map, refl, ap, ap₂, subst, sym, ◌∙◌, arith, append_assoc, length-append}
+use Rattle.std.proofs.Common.{◌≡◌, ℕ, zero, suc, ◌+◌, ◌*◌, ◌^◌, ◌<◌, ◌≤◌, Bool, true, false, cond, List, [], ◌∷◌, ◌++◌, Option, Some, None, length, take, drop, replicate, slice_get, All, map, refl, ap, ap₂, sym, ◌∙◌, arith, append_assoc, length-append}
 use Rattle.std.proofs.lemmas.List.{take_at, drop_at, length-replicate, length-map}
 use Rattle.std.proofs.lemmas.Bool.{le-ltb}
 use Rattle.std.proofs.lemmas.Nat.{shr_high, mod_low, from_le_bytes-to_le_bytes_2, from_le_bytes-to_le_bytes_4}
 use lib.Dec.{ltb}
-use Rattle.std.specs.Int.{w16, w32}
+use Rattle.std.specs.Int.{w32}
 use Rattle.std.specs.List.{concat}
 use Rattle.lan_bytes.specs.Numbers.{low_first, number_at}
-use Rattle.lan_model.specs.declared.tree.Layer.{Layer}
 use Rattle.lan_model.specs.declared.tree.Leaf.{Leaf}
 use Rattle.lan_model.specs.Plain.{plain_type}
 use Rattle.lan_levels.specs.Codes.{layer_code}
@@ -16,9 +15,9 @@ use Rattle.lan_levels.specs.declared.slot.State.TheVariants as state
 use Rattle.lan_levels.specs.PlainSlots.{PlainPiece, PlainSlot, nothing, bit, bytes}
 use Rattle.lan_zip.specs.declared.form.ValueForm.{ValueForm}
 use Rattle.lan_zip.specs.declared.form.ValueForm.TheVariants as value
-use Rattle.lan_zip.specs.Form.{PlainForm, form_for, value_form}
-use Rattle.lan_zip.specs.Spelled.{Valued, Read, slot, level, sized_part, value_part, kept, is_bare, slot_value, word_number, with_value, with_state, with_word, first_slot, spelled, AreSlots, AreRows, IsZip}
-use Rattle.lan_zip.specs.Written.{kind_of, written_form, CanStand, FitsForm, word_bytes, value_bytes, slot_bytes, SlotIs, PartsAre, ArePage}
+use Rattle.lan_zip.specs.Form.{PlainForm, value_form}
+use Rattle.lan_zip.specs.Spelled.{Valued, slot, level, sized_part, value_part, kept, is_bare, slot_value, word_number, with_value, with_state, with_word, first_slot, spelled, AreSlots, AreRows, IsZip}
+use Rattle.lan_zip.specs.Written.{kind_of, written_form, CanStand, FitsForm, word_bytes, value_bytes, slot_bytes, PartsAre, ArePage}
 use Rattle.lan_zip.proofs.Digits.{Roomy, form_roomy}
 use Rattle.lan_zip.proofs.FirstSlot.{word_read}
 use Rattle.lan_zip.proofs.Gathering.{number_below}

@@ -5,3 +5,6 @@ pub mod Inverse
 pub mod Rows
 pub mod Walks
 pub mod Words
+pub mod Standing
+pub mod Paths
+pub mod Texts

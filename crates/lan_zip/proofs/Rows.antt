@@ -1,12 +1,10 @@
 -- The rows of slots, and why bytes are no slots of so many rows.
-use Rattle.std.proofs.Common.{◌≡◌, ◌≢◌, ◌==◌, ◌⊎◌, inl, inr, ℕ, zero, suc, ◌+◌, ◌-◌, ◌<◌, ◌≤◌, Bool, true, false, cond, List, [], ◌∷◌, ◌++◌, Option, Some, None, length, refl, ap, ap₂, subst, sym, ◌∙◌, arith}
-use Rattle.std.proofs.lemmas.Bool.{cases_order}
-use Rattle.std.specs.Bool.{⊤}
+use Rattle.std.proofs.Common.{◌≡◌, ◌≢◌, ◌==◌, ◌⊎◌, inl, inr, ℕ, zero, suc, ◌+◌, ◌<◌, cond, List, [], ◌∷◌, ◌++◌, Some, length, refl, ap, ap₂, subst, sym, ◌∙◌, arith}
 use Rattle.lan_levels.specs.PlainSlots.{PlainSlot}
 use Rattle.lan_zip.specs.declared.fault.ZipFault.{ZipFault}
 use Rattle.lan_zip.specs.declared.fault.ZipFault.TheVariants as fault
 use Rattle.lan_zip.specs.Form.{PlainForm}
-use Rattle.lan_zip.specs.Spelled.{Read, cut, level, slot, first_slot, Part, spelled, starts, FirstBegins, Begins, AreRows, AreSlots, IsZip, Listed, OneFollows, StopsAt, OtherRows, More, Stands, Whole, slots_in}
+use Rattle.lan_zip.specs.Spelled.{Read, cut, level, slot, first_slot, Part, spelled, starts, FirstBegins, Begins, AreRows, IsZip, Listed, OneFollows, StopsAt, OtherRows, Stands, Whole, slots_in}
 use Rattle.lan_zip.proofs.FirstSlot.{first_nil}
 use Rattle.lan_zip.proofs.Walks.{spelled_none, spelled_more, Opened, opened, count_slots, no_more}
 

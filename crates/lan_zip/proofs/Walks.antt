@@ -1,5 +1,5 @@
 -- Slots that are spelled, one more at a time.
-use Rattle.std.proofs.Common.{◌≡◌, ◌≢◌, ◌⊎◌, inl, inr, ℕ, zero, suc, ◌+◌, ◌-◌, ◌<◌, ◌≤◌, List, [], ◌∷◌, ◌++◌, Option, Some, None, length, refl, ap, subst, sym, ◌∙◌, arith}
+use Rattle.std.proofs.Common.{◌≡◌, ℕ, zero, suc, ◌+◌, ◌<◌, List, [], ◌∷◌, ◌++◌, Option, Some, None, length, refl, ap, sym, ◌∙◌, arith}
 use Rattle.lan_levels.specs.PlainSlots.{PlainSlot}
 use Rattle.lan_zip.specs.Form.{PlainForm}
 use Rattle.lan_zip.specs.Spelled.{Read, cut, level, slot, first_slot, Part, before, onward, spelled}

@@ -1,5 +1,5 @@
 -- What is written is read.
-use Rattle.std.specs.Prelude.{◌≡◌, ℕ, ◌∷◌, ◌≤◌, List, length, All}
+use Rattle.std.specs.Prelude.{ℕ, ◌∷◌, ◌≤◌, List, length, All}
 use Rattle.lan_model.specs.declared.tree.Leaf.{Leaf}
 use Rattle.lan_levels.specs.PlainSlots.{PlainSlot}
 use Rattle.lan_zip.specs.Spelled.{AreRows, IsZip}

@@ -2,3 +2,4 @@ pub mod Form
 pub mod Spelled
 pub mod Written
 pub mod Inverse
+pub mod Standing

@@ -3,7 +3,8 @@ use Rattle.std.specs.Prelude.{◌≡◌, ℕ, zero, suc, ◌+◌, ◌*◌, ◌/�
 use Rattle.std.specs.List.{concat}
 use Rattle.lan_bytes.specs.Numbers.{low_first}
 use Rattle.lan_model.specs.declared.tree.Leaf.{Leaf}
-use Rattle.lan_model.specs.Plain.{PlainType, primitive, vector, plain_type}
+use Rattle.lan_model.specs.Leaves.{PlainLeaf, plain_leaf}
+use Rattle.lan_model.specs.Plain.{PlainType, primitive, vector}
 use Rattle.lan_model.specs.Fits.{width}
 use Rattle.lan_levels.specs.declared.shape.ValueKind.{ValueKind}
 use Rattle.lan_levels.specs.declared.shape.ValueKind.TheVariants as stored
@@ -23,8 +24,11 @@ kind_of (vector p n) = stored.Flat (n * width p)
 kind_of _ = stored.Variable
 
 -- the form of a leaf's slots, with the writer's codes
+abbrev pub leaf_form : PlainLeaf → PlainForm
+leaf_form l = form_for (map layer_code l.layers) l.layers (value_form l.ty (kind_of l.ty))
+
 abbrev pub written_form : Leaf → PlainForm
-written_form l = form_for (map layer_code l.layers) l.layers (value_form (plain_type l.ty) (kind_of (plain_type l.ty)))
+written_form l = leaf_form (plain_leaf l)
 
 -- a present value is of the form, and a slot in any other state has none
 abbrev pub FitsForm : ValueForm → State → PlainPiece → Type 0

@@ -1,9 +1,14 @@
-ghost use Rattle.std.specs.Prelude.{◌<◌, ◌≤◌, length};
+ghost use Rattle.std.specs.Prelude.{◌≡◌, ◌<◌, ◌≤◌, [], ◌∷◌, true, length, IfOk};
+ghost use Rattle.lan_model.specs.Plain.{plain_type, text};
+ghost use Rattle.lan_model.specs.declared.tree.Layer.TheVariants as layer;
+ghost use Rattle.lan_levels.specs.PlainSlots.{bytes, nothing};
+ghost use Rattle.lan_levels.specs.SlotsOf.{slot};
+ghost use Rattle.lan_levels.specs.declared.slot.State.TheVariants as state;
 
 use crate::{ZipFault, ZipView, build_page};
 use lan_bytes::View;
-use lan_levels::{Codes, Piece, Shape, SlotBuf, ValueKind, codes_fit, codes_of};
-use lan_model::{Layer, Leaf, List, Primitive, Ty};
+use lan_levels::{Codes, Piece, Shape, Slot, SlotBuf, State, ValueKind, codes_fit, codes_of};
+use lan_model::{Blobs, Layer, Leaf, List, Primitive, Ty};
 use std::alloc::{AllocError, Global};
 use std::test::Fail;
 
@@ -129,23 +134,62 @@ fn nine_bits_of_levels_are_two_bytes(rt: HostRuntime) -> Result<(), Fail> {
     Ok(())
 }
 
-/// The bytes of a page without slots, at a leaf of text.
-fn empty_page(alloc: Global) -> Result<u64, AllocError> {
-    let (leaf, _) = leaf_in(alloc, Ty::Text, true, 0)?;
-    if leaf.layers.len() > 16 {
-        return Ok(0);
-    }
-    let slots = SlotBuf::new(alloc);
-    let buffers = build_page(alloc, &leaf, &slots, 0, 0)?;
-    let mut size: u64 = 0;
-    for buffer in buffers.as_slice() {
-        size = size.wrapping_add(buffer.len());
-    }
-    Ok(size)
+/// A nullable leaf of text.
+fn text_leaf(alloc: Global) -> Result<Leaf, AllocError>
+    ensures layers { IfOk result (λ leaf. leaf.layers ≡ layer.Item true ∷ []) }
+    ensures ty { IfOk result (λ leaf. plain_type leaf.ty ≡ text) }
+{
+    let mut layers = List::new(alloc);
+    layers.push(Layer::Item { nullable: true })?;
+    Ok(Leaf {
+        id: 0,
+        top: 0,
+        ty: Ty::Text,
+        layers,
+    })
+}
+
+/// The slots of the texts `ab`, null and the empty one.
+fn text_slots(alloc: Global) -> Result<SlotBuf, AllocError>
+    ensures { IfOk result (λ slots. slots ≡ slot 0 state.Here (bytes (97 ∷ 98 ∷ [])) ∷ slot 0 (state.Null 0) nothing ∷ slot 0 state.Here (bytes []) ∷ []) }
+{
+    let mut slots = SlotBuf::new(alloc);
+    slots.push(Slot {
+        rep: 0,
+        state: State::Here,
+        value: Piece::Bytes(b"ab"),
+    })?;
+    slots.push(Slot {
+        rep: 0,
+        state: State::Null(0),
+        value: Piece::Nothing,
+    })?;
+    slots.push(Slot {
+        rep: 0,
+        state: State::Here,
+        value: Piece::Bytes(b""),
+    })?;
+    Ok(slots)
+}
+
+#[tactic(auto, using(crate::proofs::Texts::texts_stand))]
+fn text_page(alloc: Global) -> Result<Blobs, AllocError> {
+    let leaf = text_leaf(alloc)?;
+    let slots = text_slots(alloc)?;
+    build_page(alloc, &leaf, &slots, 0, 3)
 }
 
 #[test]
-fn a_page_without_slots_has_its_end(rt: HostRuntime) -> Result<(), Fail> {
-    assert_eq!(rt; empty_page(rt.alloc())?, 8);
+fn texts_are_built(rt: HostRuntime) -> Result<(), Fail> {
+    let buffers = text_page(rt.alloc())?;
+    let [content, starts] = buffers.as_slice() else {
+        return Err("not two buffers".into());
+    };
+    assert_eq!(rt; content.as_slice(), TEXTS.as_slice());
+    let mut places = [0; 32];
+    for (i, place) in [(0, 0), (8, 7), (16, 12), (24, 17)] {
+        places[i] = place;
+    }
+    assert_eq!(rt; starts.as_slice(), places.as_slice());
     Ok(())
 }

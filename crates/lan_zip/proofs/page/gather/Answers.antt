@@ -1,4 +1,4 @@
-use Rattle.std.proofs.Common.{◌≡◌, ◌∙◌, ◌-◌, ap, subst, sym, arith, take, drop, List, ℕ, ◌++◌, cond, []}
+use Rattle.std.proofs.Common.{◌∙◌, ◌-◌, ap, subst, sym, arith, take, drop, List, ℕ, ◌++◌, cond, []}
 use Rattle.lan_bytes.specs.Numbers.{low_first}
 use Rattle.lan_levels.specs.PlainSlots.{PlainSlot, plain_slot}
 use Rattle.lan_zip.specs.Form.{plain_form}

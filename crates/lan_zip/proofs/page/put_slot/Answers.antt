@@ -1,7 +1,7 @@
 use Rattle.std.proofs.Common.{◌≡◌, ◌∙◌, ◌+◌, ◌-◌, ◌*◌, ◌^◌, ◌<◌, ◌++◌, ℕ, false, ap, ap₂, subst, sym, arith}
 use Rattle.std.proofs.lemmas.Nat.{pow_pos}
 use Rattle.std.proofs.lemmas.Result.{on_ok_weaker}
-use Rattle.lan_levels.specs.PlainSlots.{plain_piece, plain_slot}
+use Rattle.lan_levels.specs.PlainSlots.{plain_slot}
 use Rattle.lan_zip.specs.Form.{plain_form}
 use Rattle.lan_zip.specs.Written.{value_bytes}
 use Rattle.lan_zip.proofs.Gathering.{number_below, bare_is, slot_appended}

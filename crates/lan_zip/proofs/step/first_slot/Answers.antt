@@ -1,4 +1,4 @@
-use Rattle.std.proofs.Common.{◌≡◌, ◌∙◌, ◌/◌, ◌%◌, ◌^◌, ℕ, List, Option, Some, None, ap, sym, drop, arith}
+use Rattle.std.proofs.Common.{◌∙◌, ◌/◌, ◌^◌, ℕ, List, Option, ap, drop}
 use Rattle.lan_levels.specs.declared.slot.State.{State}
 use Rattle.lan_zip.specs.Form.{plain_form}
 use Rattle.lan_zip.specs.Spelled.{with_state, with_value, slot_value, word_number}

@@ -1,4 +1,4 @@
-use Rattle.std.proofs.Common.{◌≡◌, ◌∙◌, ap, slice_get, bit_and}
+use Rattle.std.proofs.Common.{◌∙◌, ap, slice_get, bit_and}
 use Rattle.std.proofs.lemmas.Nat.{and_mask}
 use Rattle.lan_levels.specs.Codes.{states_of}
 use Rattle.lan_zip.proofs.step.word_state.Goals as goal

@@ -1,11 +1,11 @@
-use Rattle.std.proofs.Common.{rules, Some, List, ℕ, ◌≡◌, ◌≢◌, ◌∙◌, ◌+◌, ◌++◌, ◌∷◌, ◌==◌, cond, [], ap, ap₂, sym, subst, refl, arith, length, true≢false}
+use Rattle.std.proofs.Common.{rules, Some, List, ℕ, ◌≡◌, ◌∙◌, ◌+◌, ◌++◌, ◌∷◌, [], ap, ap₂, sym, refl, arith, length, true≢false}
 use Rattle.std.proofs.lemmas.List.{nil_from_length}
 use Rattle.lan_levels.specs.PlainSlots.{plain_slot}
 use Rattle.lan_zip.specs.Form.{plain_form}
-use Rattle.lan_zip.specs.Spelled.{cut, level, Part, spelled, starts}
+use Rattle.lan_zip.specs.Spelled.{Part, spelled}
 use Rattle.lan_zip.proofs.FirstSlot.{shorter}
-use Rattle.lan_zip.proofs.Walks.{spelled_none, put_last, count_slots}
-use Rattle.lan_zip.proofs.Rows.{stops_list, starts_last, listed_rows, first_begins, other}
+use Rattle.lan_zip.proofs.Walks.{spelled_none, put_last}
+use Rattle.lan_zip.proofs.Rows.{starts_last, listed_rows, first_begins, other}
 use Rattle.lan_zip.proofs.view.list_count.Goals as goal
 use Rattle.lan_zip.proofs.view.list_count.Goals.{then-starts-rows-via-then-starts-rows, then-starts-rows-via-else-starts-rows+then-not-begins_row}
 

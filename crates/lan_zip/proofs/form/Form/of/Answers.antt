@@ -1,4 +1,4 @@
-use Rattle.std.proofs.Common.{◌≡◌, ◌^◌, ◌*◌, ◌%◌, ◌-◌, ◌+◌, ◌/◌, ℕ, arith, ap, ◌∙◌}
+use Rattle.std.proofs.Common.{◌^◌, ◌*◌, ◌%◌, ◌-◌, ◌+◌, ◌/◌, ℕ, arith, ap, ◌∙◌}
 use Rattle.std.proofs.lemmas.Nat.{one_shl}
 use Rattle.lan_levels.proofs.LayerCodes.{fitting_are, fitting_count}
 use Rattle.lan_zip.proofs.Words.{word_room}

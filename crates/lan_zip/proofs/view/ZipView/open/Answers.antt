@@ -1,4 +1,4 @@
-use Rattle.std.proofs.Common.{rules, IfErr, ◌<◌, ◌≡◌, ◌∙◌, ap, ap₂, sym, subst, List, ℕ, length}
+use Rattle.std.proofs.Common.{rules, IfErr, ◌<◌, subst, List, ℕ}
 use Rattle.std.proofs.lemmas.Result.{MatchResult-weaker}
 use Rattle.lan_zip.specs.Form.{PlainForm, form_of, plain_form}
 use Rattle.lan_zip.specs.Spelled.{IsZip, Stands, spelled, slots_in}

@@ -1,6 +1,6 @@
 use Rattle.std.proofs.Common.{◌≡◌, ◌++◌}
 use Rattle.lan_values.specs.Built.{bool_bytes}
-use Rattle.lan_values.proofs.bools.put_bools.Given as goal
+use Rattle.lan_values.proofs.bools.put_bytes.Given as goal
 
 abbrev pub invariant-loop-i : goal.invariant-loop-i
 invariant-loop-i l = l.out ≡ l.initial.out ++ bool_bytes l.i l.values

@@ -1,6 +1,6 @@
 use Rattle.std.proofs.Common.{rules, ◌≡◌, ◌∙◌, ◌%◌, ◌<◌, arith}
 use Rattle.lan_values.proofs.BoolBytes.{none_yet, one_more}
-use Rattle.lan_values.proofs.bools.put_bools.Goals as goal
+use Rattle.lan_values.proofs.bools.put_bytes.Goals as goal
 
 pub loop-i-init : goal.loop-i-init
 loop-i-init c = none_yet c.args.values.now c.args.out.now

@@ -4,11 +4,11 @@ ghost use Rattle.json.specs.Print.{print};
 ghost use Rattle.json.specs.Token as Token;
 ghost use Rattle.json.specs.Tree.{json_tokens, items_tokens, members_tokens};
 ghost use Rattle.lan_model.specs.Plain.{plain_type, plain_field, plain_fields};
-ghost use Rattle.lan_schema.specs.FieldTree.{name_of};
 ghost use Rattle.lan_form.specs.Printed.{kind_of, label_members, field_json, fields_json, inside_tokens, json_of};
 
 use json::Writer;
-use lan_model::{Field, FieldList, Primitive, Text, Ty};
+use lan_model::{Field, FieldList, Text, Ty};
+use lan_schema::logical_of;
 use std::alloc::{AllocError, Global};
 
 /// The JSON form of a schema, without white space, the keys of each object in the order of their bytes.
@@ -103,34 +103,7 @@ fn kind_of(alloc: Global, ty: &Ty) -> Result<String, AllocError>
     ensures { IfOk result (λ s. string_bytes s ≡ kind_of (plain_type ty.now)) }
 {
     match ty {
-        Ty::Bits(primitive) => String::from_str(alloc, name_of(*primitive)),
-        Ty::Vector(primitive, count) => {
-            let name = name_of(*primitive);
-            format!(in alloc; "fixed_size_list:{name}:{count}")
-        }
-        Ty::Text => String::from_str(alloc, "string"),
-        Ty::Bytes => String::from_str(alloc, "binary"),
         Ty::List(_) => String::from_str(alloc, "list"),
-        Ty::Struct(_) => String::from_str(alloc, "struct"),
-    }
-}
-
-fn name_of(primitive: Primitive) -> &'static str
-    ensures { result.now ≡ name_of primitive }
-{
-    match primitive {
-        Primitive::Bool => "bool",
-        Primitive::Int8 => "int8",
-        Primitive::Int16 => "int16",
-        Primitive::Int32 => "int32",
-        Primitive::Int64 => "int64",
-        Primitive::Uint8 => "uint8",
-        Primitive::Uint16 => "uint16",
-        Primitive::Uint32 => "uint32",
-        Primitive::Uint64 => "uint64",
-        Primitive::Half => "halffloat",
-        Primitive::Float => "float",
-        Primitive::Double => "double",
-        Primitive::Date => "date32:day",
+        _ => logical_of(alloc, ty),
     }
 }

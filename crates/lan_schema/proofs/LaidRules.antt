@@ -195,13 +195,14 @@ within p l inside others before later s =
 
 new_past : (p : ℤ) (l : Label) (inside : Trees) (before : List Flat) (ts : Trees) → (l.id ≡ p → ⊥) → Absent p inside → Unlike l.name ts → AreNew p before ts → AreNew p (onto (laid l.id inside) (under p l ∷ before)) ts
 new_past p l inside before none h a u n = tt
-new_past p l inside before (tree m more others) h a u n =
-    (named_onto (laid l.id inside) (under p l ∷ before) p m.name (laid_unnamed l.id p m.name inside h a)
-    (or_from (same p p && bytes_eq l.name m.name) (is_named before p m.name) (both_false (same p p) (bytes_eq l.name m.name) u.0) n.0),
-    new_past p l inside before others h a u.1 n.1) where
-      both_false : (a b : Bool) → b ≡ false → (a && b) ≡ false
-      both_false true b e = e
-      both_false false b e = refl
+new_past p l inside before (tree m more others) h a u n = (
+  named_onto (laid l.id inside) (under p l ∷ before) p m.name (laid_unnamed l.id p m.name inside h a)
+      (or_from (same p p && bytes_eq l.name m.name) (is_named before p m.name) (both_false (same p p) (bytes_eq l.name m.name) u.0) n.0),
+  new_past p l inside before others h a u.1 n.1,
+) where
+  both_false : (a b : Bool) → b ≡ false → (a && b) ≡ false
+  both_false true b e = e
+  both_false false b e = refl
 
 beside : (p : ℤ) (l : Label) (inside others : Trees) (before later : List Flat) → MayStand p (tree l inside others) before later → MayStand p others (onto (laid l.id inside) (under p l ∷ before)) later
 beside p l inside others before later s =

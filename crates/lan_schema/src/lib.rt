@@ -32,7 +32,7 @@ pub use logical_laws::leaf_types_have_one_name;
 pub use reading::read_entry;
 pub use reading_laws::{no_fields_where_a_fault_stands, one_list_of_fields};
 pub use renumbering::renumber;
-pub use trees::write_fields;
+pub use trees::{logical_of, write_fields};
 pub use writing::write_entry;
 pub use writing_laws::{
     columns_are_fields_of_a_table, fields_that_are_read_are_of_a_table,

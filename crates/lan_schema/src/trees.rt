@@ -37,7 +37,9 @@ fn list_name(item: &Field) -> &'static str
     }
 }
 
-fn logical_of(alloc: Global, ty: &Ty) -> Result<String, AllocError>
+/// The logical type of the Lance format that names a type: a list of structs is `list.struct`, any
+/// other is `list`.
+pub fn logical_of(alloc: Global, ty: &Ty) -> Result<String, AllocError>
     ensures { IfOk result (λ s. string_bytes s ≡ logical_of (plain_type ty.now)) }
 {
     match ty {

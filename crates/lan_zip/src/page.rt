@@ -16,6 +16,9 @@ use std::alloc::{AllocError, Global};
 ///
 /// The first holds the slots. Where values are of any length, or the leaf has list layers, the
 /// second has the place of each row's first slot and the end, in eight bytes each.
+///
+/// The slots of rows that fit their fields can stand in a page, unless a value has 2^32 bytes or
+/// more: that is the law `laws::rows_can_stand`.
 pub fn build_page(
     alloc: Global,
     leaf: &Leaf,

@@ -9,3 +9,4 @@ pub mod Limited
 pub mod Lists
 pub mod ReadBack
 pub mod Twice
+pub mod Unnumbered

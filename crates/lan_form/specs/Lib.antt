@@ -7,3 +7,4 @@ pub mod Names
 pub mod Numbers
 pub mod Printed
 pub mod Shape
+pub mod Why

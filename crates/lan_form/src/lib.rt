@@ -10,7 +10,9 @@ mod reading;
 mod shape;
 #[cfg(test)]
 mod tests;
+mod words;
 
 pub use faults::FormFault;
 pub use printing::to_json;
 pub use reading::{field_from_json, from_json};
+pub use words::why;

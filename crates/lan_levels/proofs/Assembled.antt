@@ -20,6 +20,7 @@ use Rattle.lan_levels.proofs.Loosened.{loosen}
 use Rattle.lan_levels.proofs.Chosen.{all_closed}
 use Rattle.lan_levels.proofs.EachLeaf.{EachLeaf-map, EachLeaf-map2, EachLeaf-path, SomeLeaf-map, SomeLeaf-none, SomeLeaf-not}
 use Rattle.lan_levels.proofs.Proper.{OkSlot, proper, ok_no_null, ok_no_text}
+use Rattle.lan_levels.proofs.NullPlaces.{null_same}
 use Rattle.lan_levels.proofs.Joined.{HasSlots, leaves_have, runs_have, run_count, run_named}
 
 abbrev nothing_more : PlainType ℕ → List Layer → List PlainSlot
@@ -46,7 +47,7 @@ pub cause_of : (f : PlainField ℕ) (runs : List SlotRun) (left : ℕ → List P
 cause_of f runs left (join.Shape id) start h =
     SomeLeaf-map f 0 (λ d j ty path. (d ≡ id) × NoneBeginsWith f 0 0 left j) (λ d k ty path. (d ≡ id) × NoneHas f runs k)
     (λ d j ty path a b c x. (x.0, λ chosen closed there v fit has. x.1 chosen closed there v nothing_more fit (begins f runs left chosen v start has))) h
-cause_of f runs left (join.NotNull id) start h = h
+cause_of f runs left (join.NotNull id) start h = null_same f 0 id (slots_at runs) left (λ j. sym (start j)) h
 cause_of f runs left (join.NotText id) start h = h
 cause_of f runs left join.Memory start h = tt
 

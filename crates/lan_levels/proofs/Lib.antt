@@ -7,6 +7,8 @@ pub mod Growth
 pub mod EachLeaf
 pub mod Loosened
 pub mod Reps
+pub mod Begun
+pub mod NullPlaces
 pub mod HeadSays
 pub mod TakenLeaf
 pub mod TakenBare

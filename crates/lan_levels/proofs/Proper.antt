@@ -1,7 +1,7 @@
 -- A value that fits has no null where none is allowed, and no text that is not UTF-8.
 use Rattle.std.proofs.Common.{◌≡◌, ℕ, suc, ◌+◌, ◌<◌, ◌⊎◌, inl, inr, Bool, false, List, [], ◌∷◌, ◌++◌, length, All, IsTrue, IsUtf8, refl, sym, subst, ◌∙◌, true≢false, arith}
 use Rattle.std.specs.List.{Contains}
-use Rattle.std.proofs.lemmas.List.Elements.{All-nil, All-cons, All-head, All-tail, All-contains}
+use Rattle.std.proofs.lemmas.List.Elements.{All-nil, All-cons, All-head, All-tail, All-contains, Contains-append_right}
 use Rattle.lan_model.specs.declared.tree.Layer.{Layer}
 use Rattle.lan_model.specs.declared.tree.Layer.TheVariants as layer
 use Rattle.lan_model.specs.Plain.{PlainType, primitive, vector, text, bytes as byte_type, list, struct, PlainField, field, PlainFields, no_fields, one_field, PlainValue, null, bits, raw, items, group, PlainValues, no_values, one_value}
@@ -11,7 +11,7 @@ use Rattle.lan_levels.specs.declared.slot.State.TheVariants as state
 use Rattle.lan_levels.specs.PlainSlots.{PlainPiece, nothing, bytes, PlainSlot}
 use Rattle.lan_levels.specs.SlotsOf.{slots_of, slot, flat, lists_in, at_place, piece_of}
 use Rattle.lan_levels.specs.EachLeaf.{leaf_count, EachLeaf, EachLeafOf}
-use Rattle.lan_levels.specs.BadSlots.{SaysNull, HasBadNull, SomeHasBadNull, IsBadText, HasBadText}
+use Rattle.lan_levels.specs.BadSlots.{SaysNull, IsBadNull, HasBadNull, SomeHasBadNull, IsBadText, HasBadText}
 use Rattle.lan_levels.proofs.EachPath.{EachPath, EachMember, EachPath-all, EachPath-map, EachPath-map2, EachMember-all}
 use Rattle.lan_levels.proofs.Heads.{after, at_after}
 use Rattle.lan_levels.proofs.EachLeaf.{EachLeaf-map, EachLeaf-map2, EachLeaf-first, SomeLeaf-not}
@@ -178,10 +178,12 @@ members_clash (one_field f fs) n m i slots e p q = (
   members_clash fs n (suc m) (i + leaf_count f) slots e p.1 q.1,
 )
 
-null_in : (f : PlainField ℕ) (i outer : ℕ) (slots : ℕ → List PlainSlot) → EachLeaf f i (SaysNull slots outer) → EachLeaf f i (NullIn slots)
-null_in f i outer slots h =
-    EachLeaf-map f i (SaysNull slots outer) (NullIn slots)
-    (λ d j ty path a b c x. (x.0, x.1, record { slot = slot (lists_in path + outer) (state.Null x.0) nothing; stands = x.2; null = refl })) h
+null_in : (f : PlainField ℕ) (i : ℕ) (slots : ℕ → List PlainSlot) (n : Bool) → IsBadNull n f i slots → EachLeaf f i (NullIn slots)
+null_in f i slots n bad =
+    EachLeaf-map f i (SaysNull slots bad.earlier bad.outer) (NullIn slots)
+    (λ d j ty path a b c x.
+    let s = slot (lists_in path + bad.outer) (state.Null x.depth) nothing in
+    (x.depth, x.outermost, record { slot = s; stands = subst (λ (all : List PlainSlot). Contains all s) (sym x.stands) (Contains-append_right x.before (s ∷ x.rest) s (0, omega arith, refl)); null = refl })) bad.nulls
 
 no_leaf_left : (f : PlainField ℕ) (i : ℕ) → IsField f → EachLeaf f i (λ d j ty path. ⊥) → ⊥
 no_leaf_left f i ok h = (EachLeaf-first f i (λ d j ty path. ⊥) ok h).holds
@@ -190,17 +192,17 @@ mutual
   no_bad_null : (f : PlainField ℕ) (i id : ℕ) (slots : ℕ → List PlainSlot) → IsField f → EachLeaf f i (NullsAllowed slots) → HasBadNull f i slots id → ⊥
   no_bad_null (field d name n (list item)) i id slots ok h (inl bad) =
       no_leaf_left item i ok (EachLeaf-map2 item i (λ d j ty path. NullsAllowed slots d j ty (layer.List n ∷ path)) (λ d j ty path. NullIn slots d j ty (layer.List n ∷ path)) (λ d j ty path. ⊥)
-      (λ d j ty path a b c x y. outer_clash (layer.List n) path (slots j) bad.1.not_nullable x y.0 y.1 y.2) h (null_in (field d name n (list item)) i bad.1.outer slots bad.1.nulls))
+      (λ d j ty path a b c x y. outer_clash (layer.List n) path (slots j) bad.1.not_nullable x y.0 y.1 y.2) h (null_in (field d name n (list item)) i slots n bad.1))
   no_bad_null (field d name n (list item)) i id slots ok h (inr bad) =
       no_bad_null item i id slots ok
       (EachLeaf-map item i (λ d j ty path. NullsAllowed slots d j ty (layer.List n ∷ path)) (NullsAllowed slots) (λ d j ty path a b c x. inner_allowed (layer.List n) path (slots j) x) h) bad
   no_bad_null (field d name n (struct members)) i id slots ok h (inl bad) =
-      no_leaf_left (field d name n (struct members)) i ok (members_clash members n 0 i slots bad.1.not_nullable h (null_in (field d name n (struct members)) i bad.1.outer slots bad.1.nulls))
+      no_leaf_left (field d name n (struct members)) i ok (members_clash members n 0 i slots bad.1.not_nullable h (null_in (field d name n (struct members)) i slots n bad.1))
   no_bad_null (field d name n (struct members)) i id slots ok h (inr bad) = none_has_bad_null members n 0 i id slots ok.1 h bad
-  no_bad_null (field d name n (primitive p)) i id slots ok h bad = let y = null_in (field d name n (primitive p)) i bad.1.outer slots bad.1.nulls in outer_clash (layer.Item n) [] (slots i) bad.1.not_nullable h y.0 y.1 y.2
-  no_bad_null (field d name n (vector p k)) i id slots ok h bad = let y = null_in (field d name n (vector p k)) i bad.1.outer slots bad.1.nulls in outer_clash (layer.Item n) [] (slots i) bad.1.not_nullable h y.0 y.1 y.2
-  no_bad_null (field d name n text) i id slots ok h bad = let y = null_in (field d name n text) i bad.1.outer slots bad.1.nulls in outer_clash (layer.Item n) [] (slots i) bad.1.not_nullable h y.0 y.1 y.2
-  no_bad_null (field d name n byte_type) i id slots ok h bad = let y = null_in (field d name n byte_type) i bad.1.outer slots bad.1.nulls in outer_clash (layer.Item n) [] (slots i) bad.1.not_nullable h y.0 y.1 y.2
+  no_bad_null (field d name n (primitive p)) i id slots ok h bad = let y = null_in (field d name n (primitive p)) i slots n bad.1 in outer_clash (layer.Item n) [] (slots i) bad.1.not_nullable h y.0 y.1 y.2
+  no_bad_null (field d name n (vector p k)) i id slots ok h bad = let y = null_in (field d name n (vector p k)) i slots n bad.1 in outer_clash (layer.Item n) [] (slots i) bad.1.not_nullable h y.0 y.1 y.2
+  no_bad_null (field d name n text) i id slots ok h bad = let y = null_in (field d name n text) i slots n bad.1 in outer_clash (layer.Item n) [] (slots i) bad.1.not_nullable h y.0 y.1 y.2
+  no_bad_null (field d name n byte_type) i id slots ok h bad = let y = null_in (field d name n byte_type) i slots n bad.1 in outer_clash (layer.Item n) [] (slots i) bad.1.not_nullable h y.0 y.1 y.2
 
   none_has_bad_null : (fs : PlainFields ℕ) (n : Bool) (m i id : ℕ) (slots : ℕ → List PlainSlot) → AreFields fs → EachLeafOf fs n m i (NullsAllowed slots) → SomeHasBadNull fs i slots id → ⊥
   none_has_bad_null no_fields n m i id slots ok h bad = bad

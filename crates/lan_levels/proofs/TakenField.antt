@@ -16,6 +16,7 @@ use Rattle.lan_levels.proofs.EachLeaf.{EachLeaf-map2, EachLeaf-first}
 use Rattle.lan_levels.proofs.TakenBare.{SaysAt, says_at}
 use Rattle.lan_levels.proofs.TakenItems.{no_first, no_next}
 use Rattle.lan_levels.proofs.TakenMembers.{NotNullMark, struct_refused}
+use Rattle.lan_levels.proofs.NullPlaces.{null_past_items}
 
 -- an item of a list is refused
 pub list_refused : (d : ℕ) (name : List ℕ) (n : Bool) (item : PlainField ℕ) (k i : ℕ) (slots old : ℕ → List PlainSlot) (e : Join)
@@ -23,7 +24,7 @@ pub list_refused : (d : ℕ) (name : List ℕ) (n : Bool) (item : PlainField ℕ
 list_refused d name n item k i slots old (join.Shape id) ok m (inl h) = no_first d name n item k i id old ok m h
 list_refused d name n item k i slots old (join.Shape id) ok m (inr h) = no_next d name n item k i id old h.0 h.1 ok m h.2 h.3 h.4
 list_refused d name n item k i slots old (join.NotNull id) ok m (inl h) = inr h
-list_refused d name n item k i slots old (join.NotNull id) ok m (inr h) = inr h.4
+list_refused d name n item k i slots old (join.NotNull id) ok m (inr h) = inr (null_past_items item k i id old h.0 h.1 h.2 h.4)
 list_refused d name n item k i slots old (join.NotText id) ok m (inl h) = h
 list_refused d name n item k i slots old (join.NotText id) ok m (inr h) = h.4
 list_refused d name n item k i slots old join.Memory ok m h = tt

@@ -11,7 +11,7 @@ use Rattle.lan_levels.specs.declared.join.Join.TheVariants as join
 use Rattle.lan_levels.specs.PlainSlots.{nothing, bytes, PlainSlot}
 use Rattle.lan_levels.specs.SlotsOf.{slots_of, slot}
 use Rattle.lan_levels.specs.Loosened.{loosened}
-use Rattle.lan_levels.specs.BadSlots.{IsBadText}
+use Rattle.lan_levels.specs.BadSlots.{SaysNull, IsBadText}
 use Rattle.lan_levels.specs.Taken.{Step, Took, Refused, IsAlone, leaf_slot, IsLeafValue, HasShape, LeafRefused, BeginsIn}
 
 leaf_slots_is : (ty : PlainType ℕ) (n : Bool) (r : ℕ) (v : PlainValue) → slots_of ty (layer.Item n ∷ []) r v ≡ leaf_slot ty r v ∷ []
@@ -148,12 +148,12 @@ bad_text ty whole old new i s t st step here is bad = record {
   bad = bad;
 }
 
-bad_null : (whole old new : ℕ → List PlainSlot) (i : ℕ) (s : PlainSlot) (k : ℕ) → Stands i whole old → Step i old new s → s.rep ≡ k → s.state ≡ state.Null 0 → s.value ≡ nothing
-    → Contains (whole i) (slot (0 + k) (state.Null 0) nothing)
-bad_null whole old new i s k st step r e v =
+bad_null : (id : ℕ) (n : Bool) (ty : PlainType ℕ) (old new : ℕ → List PlainSlot) (i : ℕ) (s : PlainSlot) (k : ℕ) → Step i old new s → s.rep ≡ k → s.state ≡ state.Null 0 → s.value ≡ nothing
+    → SaysNull old [] k id i ty (layer.Item n ∷ [])
+bad_null id n ty old new i s k step r e v =
     let rep : s.rep ≡ 0 + k = omega (arith, r) in
     let is : s ≡ slot (0 + k) (state.Null 0) nothing = same_slot s (slot (0 + k) (state.Null 0) nothing) rep e v in
-    subst (λ (x : PlainSlot). Contains (whole i) x) is (st s (new i) step.here)
+    record { depth = 0; outermost = refl; before = []; rest = new i; stands = step.here ∙ ap (λ (x : PlainSlot). x ∷ new i) is; place = refl }
 
 pub leaf_refused : (id : ℕ) (name : List ℕ) (n : Bool) (ty : PlainType ℕ) (k i : ℕ) (whole old new : ℕ → List PlainSlot) (s : PlainSlot) (e : Join)
     → IsAlone ty → Stands i whole old → Step i old new s → s.rep ≡ k → LeafRefused id n ty s e → Refused (field id name n ty) k i whole old e
@@ -165,13 +165,13 @@ leaf_refused id name n ty k i whole old new s (join.Shape d) a st step r h =
     let g : leaf_slot ty k w ≡ s = cc in
     h.1 w hw (ap (λ (x : ℕ). leaf_slot ty x w) r ∙ g)))
 leaf_refused id name n (primitive p) k i whole old new s (join.NotNull d) a st step r h =
-    (h.0, record { not_nullable = h.1; outer = k; nulls = (0, refl, bad_null whole old new i s k st step r h.2 h.3) })
+    (h.0, record { not_nullable = h.1; earlier = []; outer = k; nulls = bad_null id n (primitive p) old new i s k step r h.2 h.3 })
 leaf_refused id name n (vector p c) k i whole old new s (join.NotNull d) a st step r h =
-    (h.0, record { not_nullable = h.1; outer = k; nulls = (0, refl, bad_null whole old new i s k st step r h.2 h.3) })
+    (h.0, record { not_nullable = h.1; earlier = []; outer = k; nulls = bad_null id n (vector p c) old new i s k step r h.2 h.3 })
 leaf_refused id name n text k i whole old new s (join.NotNull d) a st step r h =
-    (h.0, record { not_nullable = h.1; outer = k; nulls = (0, refl, bad_null whole old new i s k st step r h.2 h.3) })
+    (h.0, record { not_nullable = h.1; earlier = []; outer = k; nulls = bad_null id n text old new i s k step r h.2 h.3 })
 leaf_refused id name n byte_type k i whole old new s (join.NotNull d) a st step r h =
-    (h.0, record { not_nullable = h.1; outer = k; nulls = (0, refl, bad_null whole old new i s k st step r h.2 h.3) })
+    (h.0, record { not_nullable = h.1; earlier = []; outer = k; nulls = bad_null id n byte_type old new i s k step r h.2 h.3 })
 leaf_refused id name n (list item) k i whole old new s (join.NotNull d) a st step r h = absurd a
 leaf_refused id name n (struct members) k i whole old new s (join.NotNull d) a st step r h = absurd a
 leaf_refused id name n (primitive p) k i whole old new s (join.NotText d) a st step r h = let e : primitive p ≡ text = h.1 in absurd (cc)

@@ -18,6 +18,7 @@ use Rattle.lan_levels.proofs.Heads.{after, at_after}
 use Rattle.lan_levels.proofs.EachLeaf.{EachLeaf-map, EachLeafOf-map, EachLeafOf-all, SomeLeaf-map, SomeLeafOf-map}
 use Rattle.lan_levels.proofs.TakenBare.{Keeps-none, Keeps-both, first_says}
 use Rattle.lan_levels.proofs.Chosen.{true_or_not, closed_head}
+use Rattle.lan_levels.proofs.NullPlaces.{null_after}
 
 pub each_fits : (fs : PlainFields ℕ) (k i : ℕ) (old new : ℕ → List PlainSlot) (vs : PlainValues) → TookEach fs k i old new vs → EachFits fs vs
 each_fits no_fields k i old new no_values h = tt
@@ -164,10 +165,11 @@ each_no_shape (one_field f fs) n m k i id slots old (inr h) =
     (λ d j ty path a b some x. (x.0, λ chosen head closed there. no_later_member f fs n m k i chosen old h.0 h.2.keeps (x.1 chosen head closed.2 there)))
     (each_no_shape fs n (suc m) k (i + leaf_count f) id slots h.0 h.3))
 
-each_bad_null : (fs : PlainFields ℕ) (k i id : ℕ) (slots old : ℕ → List PlainSlot) → EachRefused fs k i slots old (join.NotNull id) → SomeHasBadNull fs i slots id
-each_bad_null no_fields k i id slots old h = h
-each_bad_null (one_field f fs) k i id slots old (inl h) = inl h
-each_bad_null (one_field f fs) k i id slots old (inr h) = inr (each_bad_null fs k (i + leaf_count f) id slots h.0 h.3)
+each_bad_null : (fs : PlainFields ℕ) (n : Bool) (m k i id : ℕ) (slots old : ℕ → List PlainSlot) → EachRefused fs k i slots old (join.NotNull id) → SomeHasBadNull fs i old id
+each_bad_null no_fields n m k i id slots old h = h
+each_bad_null (one_field f fs) n m k i id slots old (inl h) = inl h
+each_bad_null (one_field f fs) n m k i id slots old (inr h) =
+    inr (null_after fs n (suc m) i (i + leaf_count f) id old h.0 h.2.keeps (each_bad_null fs n (suc m) k (i + leaf_count f) id slots h.0 h.3))
 
 each_bad_text : (fs : PlainFields ℕ) (n : Bool) (m k i id : ℕ) (slots old : ℕ → List PlainSlot) → EachRefused fs k i slots old (join.NotText id)
     → SomeLeafOf fs n m i (λ d j ty path. (d ≡ id) × (ty ≡ text) × IsBadText (slots j))
@@ -188,6 +190,6 @@ struct_refused d name n members k i slots old (join.Shape id) ok m h =
           x.1 chosen i closed there has.some has.some rest refl has.fit has.begins,
     ))
     (each_no_shape members n 0 k i id slots old h)
-struct_refused d name n members k i slots old (join.NotNull id) ok m h = inr (each_bad_null members k i id slots old h)
+struct_refused d name n members k i slots old (join.NotNull id) ok m h = inr (each_bad_null members n 0 k i id slots old h)
 struct_refused d name n members k i slots old (join.NotText id) ok m h = each_bad_text members n 0 k i id slots old h
 struct_refused d name n members k i slots old join.Memory ok m h = tt

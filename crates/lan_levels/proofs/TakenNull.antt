@@ -1,6 +1,5 @@
 -- Nulls of lists and structs.
-use Rattle.std.proofs.Common.{◌≡◌, ℕ, ◌+◌, ◌<◌, inl, Bool, true, false, List, [], ◌∷◌, length, get_or, refl, ap, sym, subst, arith}
-use Rattle.std.specs.List.{Contains}
+use Rattle.std.proofs.Common.{◌≡◌, ℕ, ◌+◌, ◌<◌, inl, Bool, true, false, List, [], ◌∷◌, length, get_or, refl, ap, sym, ◌∙◌, arith}
 use Rattle.lan_model.specs.declared.tree.Field.{Field}
 use Rattle.lan_model.specs.Plain.{list, struct, PlainField, field, PlainFields, null, items, no_values, plain_field, plain_fields}
 use Rattle.lan_model.specs.Table.{IsField}
@@ -16,20 +15,20 @@ use Rattle.lan_levels.proofs.Reps.{first_rep-is, layers_below-is}
 use Rattle.lan_levels.proofs.EachLeaf.{EachLeaf-map2}
 use Rattle.lan_levels.proofs.TakenBare.{took_each_bare, some_is_not_bare, took_null, took_empty, no_null, no_empty}
 
--- what is left is of all slots
-abbrev pub AllStand : (ℕ → List PlainSlot) → (ℕ → List PlainSlot) → Type 0
-AllStand slots old = (j : ℕ) (s : PlainSlot) (rest : List PlainSlot) → old j ≡ s ∷ rest → Contains (slots j) s
-
-bad_null : (f : PlainField ℕ) (n : Bool) (k i : ℕ) (slots old new : ℕ → List PlainSlot) → n ≡ false → TookBare f false 0 k i old new → AllStand slots old → IsBadNull n f i slots
-bad_null f n k i slots old new isn took stand = record {
+bad_null : (f : PlainField ℕ) (n : Bool) (k i : ℕ) (old new : ℕ → List PlainSlot) → n ≡ false → TookBare f false 0 k i old new → IsBadNull n f i old
+bad_null f n k i old new isn took = record {
   not_nullable = isn;
+  earlier = [];
   outer = k;
-  nulls = EachLeaf-map2 f i (λ d j ty path. layers_below 0 path + 1 ≡ length path + 0) (λ d j ty path. old j ≡ bare_slot false 0 k path ∷ new j) (SaysNull slots k)
-      (λ d j ty path a b e x y. (
-        layers_below 0 path,
-        omega arith,
-        subst (λ (r : ℕ). Contains (slots j) (slot r (state.Null (layers_below 0 path)) nothing)) (first_rep-is k path) (stand j (bare_slot false 0 k path) (new j) y),
-      ))
+  nulls = EachLeaf-map2 f i (λ d j ty path. layers_below 0 path + 1 ≡ length path + 0) (λ d j ty path. old j ≡ bare_slot false 0 k path ∷ new j) (SaysNull old [] k)
+      (λ d j ty path a b e x y. record {
+        depth = layers_below 0 path;
+        outermost = omega arith;
+        before = [];
+        rest = new j;
+        stands = y ∙ ap (λ (r : ℕ). slot r (state.Null (layers_below 0 path)) nothing ∷ new j) (first_rep-is k path);
+        place = refl;
+      })
       (layers_below-is f i 0) took.taken;
 }
 
@@ -43,9 +42,9 @@ pub took_null_list : (id : ℕ) (name : List ℕ) (n : Bool) (item : PlainField 
 took_null_list id name n item k i old new is h = took_null (field id name n (list item)) k i old new is (list_bare id name n item false k i old new h)
 
 pub bad_null_list : (id : ℕ) (name : List ℕ) (n : Bool) (item : PlainField ℕ) (k i : ℕ) (slots old new : ℕ → List PlainSlot) → n ≡ false → TookBare item false 1 (k + 1) i old new
-    → AllStand slots old → Refused (field id name n (list item)) k i slots old (join.NotNull id)
-bad_null_list id name n item k i slots old new isn h stand =
-    inl (refl, bad_null (field id name n (list item)) n k i slots old new isn (list_bare id name n item false k i old new h) stand)
+    → Refused (field id name n (list item)) k i slots old (join.NotNull id)
+bad_null_list id name n item k i slots old new isn h =
+    inl (refl, bad_null (field id name n (list item)) n k i old new isn (list_bare id name n item false k i old new h))
 
 pub no_null_list : (id : ℕ) (name : List ℕ) (n : Bool) (item : PlainField ℕ) (k i other : ℕ) (slots old : ℕ → List PlainSlot) → IsField item
     → MarkIs (first_depth item + 1) (old i) mark.Null → IsNotBare item false 1 (k + 1) i old other → Refused (field id name n (list item)) k i slots old (join.Shape other)
@@ -70,9 +69,9 @@ pub took_null_struct : (id : ℕ) (name : List ℕ) (n : Bool) (members : PlainF
 took_null_struct id name n members k i old new is h = took_null (field id name n (struct members)) k i old new is (struct_bare id name n members k i old new h)
 
 pub bad_null_struct : (id : ℕ) (name : List ℕ) (n : Bool) (members : PlainFields ℕ) (k i : ℕ) (slots old new : ℕ → List PlainSlot) → n ≡ false → TookEachBare members false 1 k i old new
-    → AllStand slots old → Refused (field id name n (struct members)) k i slots old (join.NotNull id)
-bad_null_struct id name n members k i slots old new isn h stand =
-    inl (refl, bad_null (field id name n (struct members)) n k i slots old new isn (struct_bare id name n members k i old new h) stand)
+    → Refused (field id name n (struct members)) k i slots old (join.NotNull id)
+bad_null_struct id name n members k i slots old new isn h =
+    inl (refl, bad_null (field id name n (struct members)) n k i old new isn (struct_bare id name n members k i old new h))
 
 pub no_null_struct : (id : ℕ) (name : List ℕ) (n : Bool) (members : PlainFields ℕ) (k i other : ℕ) (slots old : ℕ → List PlainSlot) → IsField (field id name n (struct members))
     → MarkIs (first_depth_of members) (old i) mark.Null → SomeIsNotBare members false 1 k i old other → Refused (field id name n (struct members)) k i slots old (join.Shape other)

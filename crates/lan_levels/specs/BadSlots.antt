@@ -1,5 +1,6 @@
 -- Slots that no value of a field has: nulls of what is not nullable, and texts that are not UTF-8.
-use Rattle.std.specs.Prelude.{◌≡◌, ℕ, zero, suc, ◌+◌, Bool, false, List, [], ◌∷◌, length, Contains, IsUtf8, ◌⊎◌}
+use Rattle.std.specs.Prelude.{◌≡◌, ℕ, zero, suc, ◌+◌, ◌-◌, Bool, false, List, [], ◌∷◌, ◌++◌, length, map, filter, Contains, IsUtf8, ◌⊎◌}
+use lib.Dec.{leb}
 use Rattle.lan_model.specs.declared.tree.Layer.{Layer}
 use Rattle.lan_model.specs.Plain.{PlainType, text, list, struct, PlainField, field, PlainFields, no_fields, one_field}
 use Rattle.lan_levels.specs.declared.slot.State.TheVariants as state
@@ -14,15 +15,25 @@ slots_at [] j = []
 slots_at (run ∷ runs) zero = plain_slots run.slots
 slots_at (run ∷ runs) (suc j) = slots_at runs j
 
--- a slot of the leaf says that the outermost layer of the path is null, and `outer` list layers further out began there
-abbrev pub SaysNull : (ℕ → List PlainSlot) → ℕ → ℕ → ℕ → PlainType ℕ → List Layer → Type 0
-SaysNull slots outer d j ty path = (depth : ℕ) × (depth + 1 ≡ length path) × Contains (slots j) (slot (lists_in path + outer) (state.Null depth) nothing)
+-- the slots that begin a value of a field with these layers, and not an item inside it, each by how many list layers further out began there
+abbrev pub begun : List Layer → List PlainSlot → List ℕ
+begun path slots = map (λ s. s.rep - lists_in path) (filter (λ s. leb (lists_in path) s.rep) slots)
 
--- in each leaf of the field, which is not nullable, a slot says that it is null, and as many list layers further out began in each
+-- a slot of the leaf says that the outermost layer of the path is null; `outer` list layers further out began there, and before it the values `earlier` began
+pub record SaysNull (slots : ℕ → List PlainSlot) (earlier : List ℕ) (outer d j : ℕ) (ty : PlainType ℕ) (path : List Layer) : Type 0 where
+  pub depth : ℕ
+  pub outermost : depth + 1 ≡ length path
+  pub before : List PlainSlot
+  pub rest : List PlainSlot
+  pub stands : slots j ≡ before ++ slot (lists_in path + outer) (state.Null depth) nothing ∷ rest
+  pub place : begun path before ≡ earlier
+
+-- the field is not nullable, and at one and the same value of it the slots of all its leaves say that it is null
 pub record IsBadNull (n : Bool) (f : PlainField ℕ) (i : ℕ) (slots : ℕ → List PlainSlot) : Type 0 where
   pub not_nullable : n ≡ false
+  pub earlier : List ℕ
   pub outer : ℕ
-  pub nulls : EachLeaf f i (SaysNull slots outer)
+  pub nulls : EachLeaf f i (SaysNull slots earlier outer)
 
 abbrev mutual
   -- the field of the number `id`, or inside it, has such nulls

@@ -81,7 +81,7 @@ HasNoShape f lists i old id = SomeLeaf f i (λ d j ty path. (d ≡ id) × NoneBe
 -- why no value is taken
 abbrev pub Refused : PlainField ℕ → ℕ → ℕ → (ℕ → List PlainSlot) → (ℕ → List PlainSlot) → Join → Type 0
 Refused f lists i whole old (join.Shape id) = HasNoShape f lists i old id
-Refused f lists i whole old (join.NotNull id) = HasBadNull f i whole id
+Refused f lists i whole old (join.NotNull id) = HasBadNull f i old id
 Refused f lists i whole old (join.NotText id) = HasBadText f i whole id
 Refused f lists i whole old join.Memory = ⊤
 

@@ -4,7 +4,6 @@ use Rattle.lan_levels.specs.BadSlots.{slots_at}
 use Rattle.lan_levels.specs.Taken.{left_at, TookAs}
 use Rattle.lan_levels.proofs.Shallow.{shallow-outer}
 use Rattle.lan_levels.proofs.FieldViews.{plain_value-Null}
-use Rattle.lan_levels.proofs.Places.{left_stands}
 use Rattle.lan_levels.proofs.TakenNull.{took_null_list, bad_null_list, no_null_list}
 use Rattle.lan_levels.proofs.walk.null_list.Goals as goal
 
@@ -29,4 +28,4 @@ pub returns-else-nullable-clause-err : goal.returns-else-nullable-clause-err
 returns-else-nullable-clause-err c =
     let a = c.args in
     λ name. bad_null_list a.id name a.nullable (plain_field a.item.now) a.lists a.leaf (slots_at a.runs.now) (left_at a.runs.now a.places.now) (left_at a.runs.now c.bare_at.new.places)
-    c.if-nullable.false c.in-Ok.ensures.ok (left_stands a.runs.now a.places.now)
+    c.if-nullable.false c.in-Ok.ensures.ok

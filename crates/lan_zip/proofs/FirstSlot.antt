@@ -1,6 +1,7 @@
 -- The slot at the front of bytes.
 use Rattle.std.proofs.Common.{◌≡◌, ◌==◌, not, ℕ, ◌+◌, ◌/◌, ◌%◌, ◌^◌, ◌<◌, ◌≤◌, Bool, true, false, cond, List, [], ◌∷◌, Option, Some, None, length, take, drop, slice_get, refl, ap, sym, ◌∙◌, arith, length-drop}
 use Rattle.std.proofs.lemmas.Bool.{le-ltb, lt-ltb, ltb-false}
+use Rattle.std.proofs.Math.Nat.{zero-div, zero-mod}
 use lib.Dec.{ltb}
 use Rattle.std.specs.Int.{w32}
 use Rattle.lan_bytes.specs.Numbers.{number_at}
@@ -21,6 +22,19 @@ unfolding first_slot
 word_read f all n le e =
     ap (λ (k : ℕ). with_word f k (drop f.word all)) e
     ∙ ap (λ (b : Bool). cond b cut (with_word f (word_number (take f.word all)) (drop f.word all))) (sym (le-ltb (length all) f.word le))
+
+-- without a control word, each slot has a value
+pub wordless : (f : PlainForm) (later : List State) (all : List ℕ) → f.word ≡ 0 → f.states ≡ state.Here ∷ later → with_value f 0 state.Here (slot_value f state.Here all) ≡ first_slot f all
+wordless f later all w s =
+    let number : 0 ≡ word_number (take f.word all) = sym (ap (λ (k : ℕ). word_number (take k all)) w) in
+    let here : slice_get f.states 0 ≡ Some state.Here = ap (λ (ss : List State). slice_get ss 0) s in
+    let from : drop f.word all ≡ all = ap (λ (k : ℕ). drop k all) w in
+    sym
+    (ap (λ (k : ℕ). with_state f k (slice_get f.states (0 % 2 ^ f.bits)) (drop f.word all)) (zero-div (2 ^ f.bits))
+    ∙ ap (λ (k : ℕ). with_state f 0 (slice_get f.states k) (drop f.word all)) (zero-mod (2 ^ f.bits))
+    ∙ ap (λ (o : Option State). with_state f 0 o (drop f.word all)) here
+    ∙ ap (λ (bs : List ℕ). with_state f 0 (Some state.Here) bs) from)
+    ∙ word_read f all 0 (omega arith) number
 
 pub first_nil : (f : PlainForm) → 0 < f.word → first_slot f [] ≡ cut
 first_nil f lt = sym (word_cut f [] lt)

@@ -1,5 +1,6 @@
 pub mod Digits
 pub mod FirstSlot
+pub mod Fixed
 pub mod Gathering
 pub mod Inverse
 pub mod Rows

@@ -22,7 +22,21 @@ pub struct Found<'a> {
 }
 
 /// The slot at the front of the bytes.
+// A walk asks for each slot here. A call that isn't inlined hands its slot over through memory.
+#[inline(always)]
 pub fn first_slot<'a>(form: &Form<'_>, bytes: &'a [u8]) -> Step<'a>
+    requires { IsForm form.now }
+    ensures { plain_step result ≡ first_slot (plain_form form.now) bytes.now }
+{
+    if form.word == 0 {
+        return with_value(form, 0, State::Here, bytes);
+    }
+    worded_slot(form, bytes)
+}
+
+/// The slot at the front of the bytes, read by its control word.
+#[inline(always)]
+fn worded_slot<'a>(form: &Form<'_>, bytes: &'a [u8]) -> Step<'a>
     requires { IsForm form.now }
     ensures { plain_step result ≡ first_slot (plain_form form.now) bytes.now }
 {
@@ -39,6 +53,7 @@ pub fn first_slot<'a>(form: &Form<'_>, bytes: &'a [u8]) -> Step<'a>
 }
 
 /// The state that the definition number of a control word stands for.
+#[inline(always)]
 fn word_state(form: &Form<'_>, number: u16) -> Option<State>
     requires { IsForm form.now }
     ensures { result ≡ slice_get (plain_form form.now).states (number % 2 ^ (plain_form form.now).bits) }
@@ -47,6 +62,7 @@ fn word_state(form: &Form<'_>, number: u16) -> Option<State>
 }
 
 /// The slot with these levels and the value at the front of the bytes.
+#[inline(always)]
 fn with_value<'a>(form: &Form<'_>, rep: u16, state: State, bytes: &'a [u8]) -> Step<'a>
     ensures { plain_step result ≡ with_value (plain_form form.now) rep state (slot_value (plain_form form.now) state bytes.now) }
 {
@@ -69,6 +85,7 @@ fn with_value<'a>(form: &Form<'_>, rep: u16, state: State, bytes: &'a [u8]) -> S
 }
 
 /// The number of a control word, the lowest byte first.
+#[inline(always)]
 fn word_number(word: &[u8]) -> u16
     requires { length word.now ≤ 2 }
     ensures { result ≡ word_number word.now }
@@ -81,9 +98,13 @@ fn word_number(word: &[u8]) -> u16
 }
 
 /// The value of a slot in that state, and the bytes behind it. None where it passes the end.
+#[inline(always)]
 fn slot_value<'a>(form: &Form<'_>, state: State, bytes: &'a [u8]) -> Option<Found<'a>>
     ensures { plain_part result ≡ slot_value (plain_form form.now) state bytes.now }
 {
+    if let State::Here = state {
+        return value_part(form.value, bytes);
+    }
     if is_bare(form.leaf, state) {
         return Some(Found {
             value: Piece::Nothing,
@@ -91,16 +112,14 @@ fn slot_value<'a>(form: &Form<'_>, state: State, bytes: &'a [u8]) -> Option<Foun
         });
     }
     let found = value_part(form.value, bytes)?;
-    match state {
-        State::Here => Some(found),
-        _ => Some(Found {
-            value: Piece::Nothing,
-            rest: found.rest,
-        }),
-    }
+    Some(Found {
+        value: Piece::Nothing,
+        rest: found.rest,
+    })
 }
 
 /// The value at the front of the bytes, and the bytes behind it.
+#[inline(always)]
 fn value_part<'a>(value: ValueForm, bytes: &'a [u8]) -> Option<Found<'a>>
     ensures { plain_part result ≡ value_part value bytes.now }
 {
@@ -127,6 +146,7 @@ fn value_part<'a>(value: ValueForm, bytes: &'a [u8]) -> Option<Found<'a>>
 }
 
 /// So many bytes as a value, and the bytes behind them.
+#[inline(always)]
 fn sized_part<'a>(width: u64, bytes: &'a [u8]) -> Option<Found<'a>>
     ensures { plain_part result ≡ sized_part width bytes.now }
 {

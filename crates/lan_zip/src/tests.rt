@@ -104,6 +104,25 @@ fn texts_are_read(rt: HostRuntime) -> Result<(), Fail> {
 }
 
 #[test]
+fn numbers_are_counted_by_their_width(rt: HostRuntime) -> Result<(), Fail> {
+    let leaf = leaf_in(rt.alloc(), Ty::Bits(Primitive::Int16), false, 0)?;
+    let kind = ValueKind::Flat(16);
+    let bytes = [1, 0, 2, 0, 3, 0];
+    for (rows, found) in [
+        (3, Ok(1222)),
+        (2, Err(ZipFault::Extra)),
+        (4, Err(ZipFault::Cut(3))),
+        (u64::MAX, Err(ZipFault::Cut(3))),
+    ] {
+        assert_eq!(rt; walked(&leaf, &kind, &bytes, rows), found, "of {rows}");
+    }
+    let front = &bytes[..5];
+    assert_eq!(rt; walked(&leaf, &kind, front, 3), Err(ZipFault::Cut(2)));
+    assert_eq!(rt; walked(&leaf, &kind, front, 2), Err(ZipFault::Extra));
+    Ok(())
+}
+
+#[test]
 fn lists_are_read_to_their_end(rt: HostRuntime) -> Result<(), Fail> {
     let leaf = leaf_in(rt.alloc(), Ty::Bits(Primitive::Int16), false, 1)?;
     let kind = ValueKind::Flat(16);

@@ -1,11 +1,12 @@
-ghost use Rattle.std.specs.Prelude.{◌≡◌, ◌==◌, cond, ℕ, List, ◌∷◌, [], ◌<◌, ◌≤◌, length, ◌↔◌, IsTrue, IfSome, IfNone, IfOk, IfErr};
+ghost use Rattle.std.specs.Prelude.{◌≡◌, ◌==◌, cond, ℕ, List, ◌∷◌, [], ◌^◌, ◌<◌, ◌≤◌, length, ◌↔◌, IsTrue, IfSome, IfNone, IfOk, IfErr};
 ghost use Rattle.lan_levels.specs.Codes.{FitCodes};
 ghost use Rattle.lan_levels.specs.PlainSlots.{PlainSlot, plain_slot};
+ghost use Rattle.lan_zip.specs.declared.form.ValueForm.TheVariants as value;
 ghost use Rattle.lan_zip.specs.Form.{IsForm, form_of, plain_form};
 ghost use Rattle.lan_zip.specs.Spelled.{Begins, first_slot, IsZip, Listed, Stands};
 
 use crate::fault::ZipFault;
-use crate::form::Form;
+use crate::form::{Form, ValueForm};
 use crate::step::{Step, first_slot};
 use lan_bytes::View;
 use lan_levels::{Shape, Slot};
@@ -85,6 +86,7 @@ impl<'a> ZipView<'a> {
 
 impl<'a> ZipSlots<'a> {
     /// The next slot, its value lent. None after the last.
+    #[inline(always)]
     pub fn next(&mut self) -> Option<Slot<'a>>
         ensures some { IfSome result (λ slot. self.old ≡ plain_slot slot ∷ self.new) }
         ensures none { IfNone result ((self.old ≡ []) × (self.new ≡ [])) }
@@ -106,13 +108,33 @@ impl<'a> ZipSlots<'a> {
 /// How many slots the bytes are.
 fn slot_count(form: &Form<'_>, bytes: &[u8], rows: u64) -> Result<u64, ZipFault>
     requires form { IsForm form.now }
+    requires bytes { length bytes.now < 2 ^ 64 }
     ensures ok { IfOk result (λ n. Listed (plain_form form.now) rows n bytes.now) }
     ensures cause { IfErr result (Stands (plain_form form.now) rows bytes.now) }
 {
-    if form.lists == 0 {
-        single_count(form, bytes, rows)
-    } else {
-        list_count(form, bytes, rows)
+    if form.lists > 0 {
+        return list_count(form, bytes, rows);
+    }
+    match form.value {
+        ValueForm::Fixed(width) if form.word == 0 => fixed_count(form, width, bytes, rows),
+        _ => single_count(form, bytes, rows),
+    }
+}
+
+/// How many slots the bytes are, where each is a row, and a value of so many bytes alone.
+fn fixed_count(form: &Form<'_>, width: u64, bytes: &[u8], rows: u64) -> Result<u64, ZipFault>
+    requires single { form.now.lists ≡ 0 }
+    requires word { form.now.word ≡ 0 }
+    requires value { form.now.value ≡ value.Fixed width }
+    requires bytes { length bytes.now < 2 ^ 64 }
+    ensures ok { IfOk result (λ n. Listed (plain_form form.now) rows n bytes.now) }
+    ensures cause { IfErr result (Stands (plain_form form.now) rows bytes.now) }
+{
+    let length = bytes.len() as u64;
+    match rows.checked_mul(width) {
+        Some(all) if all == length => Ok(rows),
+        Some(all) if all < length => Err(ZipFault::Extra),
+        _ => Err(ZipFault::Cut(length / width)),
     }
 }
 

@@ -1,16 +1,19 @@
 -- After an append that reaches no limit the objects agree with the dataset with its version more.
-use Rattle.std.proofs.Common.{◌≡◌, refl, sym, ap, subst, ℕ, ◌+◌, ◌^◌, ◌≤◌, ◌<◌, ◌-◌, ◌%◌, List, [], ◌∷◌, ◌++◌, length, replicate, arith, append-nil, length-append}
+use Rattle.std.proofs.Common.{◌≡◌, refl, sym, ap, subst, ℕ, ◌+◌, ◌^◌, ◌≤◌, ◌<◌, ◌-◌, ◌*◌, ◌%◌, false, List, [], ◌∷◌, ◌++◌, length, replicate, arith, append-nil, length-append}
 use Rattle.std.specs.Prelude.{None, All}
+use Rattle.std.proofs.Math.Nat.{le-mul_of_pos_right}
 use Rattle.lan_model.specs.Dataset.{Dataset, with_version}
-use Rattle.lan_model.specs.Plain.{PlainField, PlainValue}
+use Rattle.lan_model.specs.Plain.{PlainField, field, PlainValue}
 use Rattle.lan_model.specs.Table.{Table, FitsRow}
 use Rattle.lan_store.specs.declared.name.Object.{Object}
 use Rattle.lan_store.specs.Objects.{object}
 use Rattle.lan_file.specs.Files.{HoldsRows}
-use Rattle.lan_file.specs.Stage.{IsRequiredInt64}
+use Rattle.lan_file.specs.Stage.{IsRequiredFixed}
 use Rattle.lan_file.specs.Texts.{page_bytes, column_text, descriptor_text}
 use Rattle.lan_file.specs.Writing.{entry_text, footer_text, file_from, file_bytes}
+use Rattle.lan_file.specs.Widths.{type_size, column_size}
 use Rattle.lan_file.proofs.Pages.{length-page_bytes}
+use Rattle.lan_file.proofs.Values.{some_size}
 use Rattle.lan_file.proofs.Written.{written_holds}
 use Rattle.lan_fresh.specs.Fresh.{fresh_file}
 use Rattle.lan_fresh.proofs.Files.{fresh_is_free}
@@ -74,16 +77,23 @@ page_first page column descriptor =
     let entries : List ℕ = entry_text (length front) (length column) ++ (entry_text (length (page ++ zeros)) (length descriptor) ++ footer_text (length front) (length front + length column)) in
     omega (arith, length-append front (column ++ entries), length-append (page ++ zeros) descriptor, length-append page zeros)
 
+-- a row takes some bytes
+row_each : (f : PlainField ℕ) (n : ℕ) → IsRequiredFixed f → n ≤ column_size (f ∷ []) * n
+row_each (field id name false ty) n is =
+    let below : n ≤ n * type_size ty = le-mul_of_pos_right n (some_size ty is) in
+    omega (arith, below)
+row_each f n is = absurd is
+
 -- so a file that isn't too long has few rows
-few_rows : (f : PlainField ℕ) (rows : List (List PlainValue)) → IsRequiredInt64 f → All (FitsRow (f ∷ [])) rows → length (file_bytes (f ∷ []) rows) ≤ 2 ^ 30 → length rows < 2 ^ 31
+few_rows : (f : PlainField ℕ) (rows : List (List PlainValue)) → IsRequiredFixed f → All (FitsRow (f ∷ [])) rows → length (file_bytes (f ∷ []) rows) ≤ 2 ^ 30 → length rows < 2 ^ 31
 unfolding file_bytes
 few_rows f rows is fit small =
-    let page = page_first (page_bytes rows) (column_text (length rows)) (descriptor_text (f ∷ []) (length rows)) in
+    let page = page_first (page_bytes (f ∷ []) rows) (column_text (f ∷ []) (length rows)) (descriptor_text (f ∷ []) (length rows)) in
     let size = length-page_bytes f rows is fit in
-    omega (arith, page, size, small)
+    omega (arith, page, size, row_each f (length rows) is, small)
 
 -- what is written of some rows of the one column holds them
-rows_held : (fields : List (PlainField ℕ)) (f : PlainField ℕ) (row : List PlainValue) (rows : List (List PlainValue)) → fields ≡ f ∷ [] → IsRequiredInt64 f → All (FitsRow fields) (row ∷ rows)
+rows_held : (fields : List (PlainField ℕ)) (f : PlainField ℕ) (row : List PlainValue) (rows : List (List PlainValue)) → fields ≡ f ∷ [] → IsRequiredFixed f → All (FitsRow fields) (row ∷ rows)
     → length (file_bytes fields (row ∷ rows)) ≤ 2 ^ 30 → (length (row ∷ rows) < 2 ^ 31) × HoldsRows fields (file_bytes fields (row ∷ rows)) (row ∷ rows)
 rows_held fields f row rows are is = subst (λ (l : List (PlainField ℕ)). All (FitsRow l) (row ∷ rows) → length (file_bytes l (row ∷ rows)) ≤ 2 ^ 30 → (length (row ∷ rows) < 2 ^ 31) × HoldsRows l (file_bytes l (row ∷ rows)) (row ∷ rows)) (sym are)
     (λ fit small. (few_rows f (row ∷ rows) is fit small, written_holds f (row ∷ rows) is (omega arith) fit (omega (arith, small))))

@@ -2,7 +2,7 @@
 use Rattle.std.proofs.Common.{◌≡◌, sym, ◌∙◌, ap, subst, ℕ, List, [], ◌∷◌, length, map, arith}
 use Rattle.std.specs.Prelude.{Some, slice_get}
 use Rattle.std.proofs.lemmas.Option.{same_Some}
-use Rattle.lan_file.specs.Stage.{IsRequiredInt64}
+use Rattle.lan_file.specs.Stage.{IsRequiredFixed}
 use Rattle.lan_manifest.specs.Manifests.{PlainManifest, manifest_object}
 use Rattle.lan_manifest.specs.Stage.{IsOneColumn}
 use Rattle.lan_model.specs.Plain.{PlainField, PlainValue, plain_field}
@@ -15,7 +15,7 @@ first_of : (f g : PlainField ℕ) (fs : List (PlainField ℕ)) → f ∷ fs ≡ 
 first_of f g fs is = cc is
 
 -- the first field is the one column
-pub column_at : (fields : List Field) (f : Field) → IsOneColumn (map plain_field fields) → slice_get fields 0 ≡ Some f → (map plain_field fields ≡ plain_field f ∷ []) × IsRequiredInt64 (plain_field f)
+pub column_at : (fields : List Field) (f : Field) → IsOneColumn (map plain_field fields) → slice_get fields 0 ≡ Some f → (map plain_field fields ≡ plain_field f ∷ []) × IsRequiredFixed (plain_field f)
 column_at [] f is at = absurd is
 column_at (g ∷ h ∷ gs) f is at =
     let found = one_column (map plain_field (g ∷ h ∷ gs)) is in
@@ -23,7 +23,7 @@ column_at (g ∷ h ∷ gs) f is at =
 column_at (g ∷ []) f is at =
     let found = one_column (map plain_field (g ∷ [])) is in
     let same : g ≡ f = same_Some g f at in
-    (ap (λ x. plain_field x ∷ []) same, subst (λ x. IsRequiredInt64 (plain_field x)) same (subst IsRequiredInt64 (first_of (plain_field g) found.0 [] found.1) found.2))
+    (ap (λ x. plain_field x ∷ []) same, subst (λ x. IsRequiredFixed (plain_field x)) same (subst IsRequiredFixed (first_of (plain_field g) found.0 [] found.1) found.2))
 
 -- the data file and the manifest, as an append puts them
 pub puts_are : (number : ℕ) (m : PlainManifest) (rows : List (List PlainValue)) (fields : List (PlainField ℕ)) (count : ℕ) (file manifest : Object) (next : PlainManifest)

@@ -3,7 +3,6 @@ pub mod Appended
 pub mod Columns
 pub mod Created
 pub mod FirstTable
-pub mod Lengths
 pub mod NeverHeld
 pub mod NextManifest
 pub mod NextVersion

@@ -1,8 +1,7 @@
 // The objects of an append.
-ghost use Rattle.std.specs.Prelude.{◌≡◌, ◌<◌, ◌≤◌, ◌^◌, ◌+◌, ◌∷◌, ℕ, pos, [], length, map, ⊤, All, Some, None, IsErrOf, IfOk, nat_lt};
-ghost use Rattle.std.specs.List.{list_any};
+ghost use Rattle.std.specs.Prelude.{◌≡◌, ◌<◌, ◌≤◌, ◌^◌, ◌+◌, ◌∷◌, ℕ, pos, [], length, map, ⊤, All, Some, None, IsErrOf, IfOk};
 ghost use Rattle.std.specs.Option.{ForSome};
-ghost use Rattle.lan_file.specs.Stage.{IsRequiredInt64};
+ghost use Rattle.lan_file.specs.Stage.{IsRequiredFixed};
 ghost use Rattle.lan_fresh.specs.Fresh.{file_path, fresh_fragment};
 ghost use Rattle.lan_manifest.specs.Manifests.{plain_manifest, manifest_object};
 ghost use Rattle.lan_manifest.specs.Versions.{IsVersion};
@@ -18,7 +17,7 @@ ghost use Rattle.lan_commit.specs.Puts.{file_object, next_version, next_with, pu
 
 use crate::committing::CommitFault;
 use crate::limits::Which;
-use crate::objects::{folder_of, manifest_alone, manifest_object};
+use crate::objects::{folder_of, manifest_alone, manifest_object, within_bytes};
 use lan_file::plain_file;
 use lan_fresh::{file_path, fresh_file, fresh_fragment};
 use lan_manifest::{DataFile, DataFiles, Fragment, Manifest};
@@ -31,8 +30,6 @@ const MAX_FRAGMENTS: u64 = 65536;
 const PAST_FRAGMENT_IDS: u64 = 1 << 32;
 
 const PAST_NUMBERS: u64 = 1 << 53;
-
-const MAX_OBJECT: u64 = 1 << 30;
 
 /// The objects of an append to the version of this manifest, which is the newest: a data file, where
 /// there are rows, and the next manifest. Nothing is put.
@@ -115,23 +112,6 @@ fn draw_file<S: Store>(alloc: Global, store: &mut S) -> Result<u64, CommitFault>
     }
 }
 
-// The objects, where none of them is too long.
-fn within_bytes(objects: Vec<Object>) -> Result<Vec<Object>, CommitFault>
-    ensures judges { JudgesLimit (bytes_limit objects.items) (λ puts. puts.items ≡ objects.items) result }
-    ensures unfailing { (name : Name) → IsErrOf result (CommitFault.Store name) → ⊥ }
-{
-    if has_long(objects.as_slice()) {
-        return Err(CommitFault::Limit(Which::ObjectBytes, MAX_OBJECT));
-    }
-    Ok(objects)
-}
-
-fn has_long(objects: &[Object]) -> bool
-    ensures { result ≡ list_any (λ o. nat_lt (2 ^ 30) (length o.bytes)) objects.now }
-{
-    objects.iter().any(|object| object.bytes.len() > MAX_OBJECT)
-}
-
 // A data file of these rows, and the next manifest.
 fn objects_of(
     alloc: Global,
@@ -154,7 +134,7 @@ fn objects_of(
 }
 
 fn file_object(alloc: Global, field: &Field, number: u64, rows: &Rows) -> Result<Object, AllocError>
-    requires column { IsRequiredInt64 (plain_field field.now) }
+    requires column { IsRequiredFixed (plain_field field.now) }
     requires number { number < 2 ^ 53 }
     requires some { 0 < length rows.now }
     requires fit { All (FitsRow (plain_field field.now ∷ [])) (map row_of rows.now) }

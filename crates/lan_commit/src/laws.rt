@@ -1,16 +1,17 @@
 //! What holds of the changes of a dataset, each law as the contract of a function with an empty body.
 
-ghost use Rattle.std.specs.Prelude.{◌≡◌, ◌<◌, ◌≤◌, ◌+◌, ◌∷◌, ◌++◌, [], ℕ, List, None, All, IsUtf8, length, take};
+ghost use Rattle.std.specs.Prelude.{◌≡◌, ◌<◌, ◌+◌, ◌∷◌, ◌++◌, [], ℕ, List, None, All, length, map, take};
 ghost use Rattle.lan_model.specs.Dataset.{Dataset, with_version};
-ghost use Rattle.lan_model.specs.Plain.{PlainValue};
-ghost use Rattle.lan_model.specs.Table.{Table, FitsRow};
+ghost use Rattle.lan_model.specs.Plain.{PlainField, PlainValue, unnumbered};
+ghost use Rattle.lan_model.specs.Table.{Table, AreColumns, FitsRow};
 ghost use Rattle.lan_store.specs.PutsAll.{IsHeldAt};
 ghost use Rattle.lan_store.specs.declared.name.Object.{Object};
 ghost use Rattle.lan_manifest.specs.Manifests.{PlainManifest};
 ghost use Rattle.lan_manifest.specs.Reads.{ManifestAt};
+ghost use Rattle.lan_manifest.specs.Stage.{IsOneColumn};
 ghost use Rattle.lan_manifest.specs.Versions.{IsNewest, NoneListed};
 ghost use Rattle.lan_read.specs.Standing.{Agrees, StandsAt};
-ghost use Rattle.lan_commit.specs.First.{first_object, no_rows};
+ghost use Rattle.lan_commit.specs.First.{first_object, first_limit, no_rows};
 ghost use Rattle.lan_commit.specs.Puts.{append_puts, limit_of};
 
 /// An append that reaches no limit: with its objects the stored ones agree with the dataset with its
@@ -29,7 +30,7 @@ pub fn appends_meet_no_name()
     ensures { (old : List Object) (version : ℕ) (m : PlainManifest) (rows : List (List PlainValue)) (k : ℕ) → IsNewest old version → m.version ≡ version → limit_of old m rows ≡ None → k < length (append_puts old m rows) → IsHeldAt k (append_puts old m rows) old → ⊥ }
 {}
 
-/// The manifest of a new dataset stands for the table of its column, without rows.
+/// The manifest of a new dataset stands for the table of its fields, without rows.
 pub fn first_manifests_stand()
-    ensures { (old : List Object) (d : Dataset) (name : List ℕ) → IsUtf8 name → 0 < length name → length name ≤ 65536 → NoneListed old → Agrees old d → Agrees (old ++ first_object name ∷ []) (with_version d 1 (no_rows name)) }
+    ensures { (old : List Object) (d : Dataset) (fields : List (PlainField ℕ)) → IsOneColumn fields → AreColumns (map unnumbered fields) → first_limit fields ≡ None → NoneListed old → Agrees old d → Agrees (old ++ first_object fields ∷ []) (with_version d 1 (no_rows fields)) }
 {}

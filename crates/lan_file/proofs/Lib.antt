@@ -1,3 +1,4 @@
+pub mod Values
 pub mod Pages
 pub mod PartLemmas
 pub mod Written

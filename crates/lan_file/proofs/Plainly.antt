@@ -13,10 +13,12 @@ use Rattle.lan_file.specs.declared.tail.Footer.{Footer}
 use Rattle.lan_file.specs.declared.tail.Extent.{Extent}
 use Rattle.lan_file.specs.Opening.{IsHead, JudgesPlain, StatesRows, column_in}
 use Rattle.lan_file.specs.Parts.{part, footer_of, extent, column_of, descriptor_of, HasColumn}
-use Rattle.lan_file.specs.Stage.{States, IsPlain, IsRequiredInt64}
+use Rattle.lan_file.specs.Stage.{States, IsPlain, IsRequiredFixed}
 use Rattle.lan_file.specs.Reasons.{StandsIn, Breaks, GivesRows}
-use Rattle.lan_file.specs.Stating.{ArePlain, IsPage}
+use Rattle.lan_file.specs.Stating.{ArePlain, StandAll, IsPage}
+use Rattle.lan_file.specs.Widths.{column_size}
 use Rattle.lan_file.proofs.PartLemmas.{part-part, length-part}
+use Rattle.lan_file.proofs.Pages.{type_of, rows_fit, same_rows}
 use Rattle.lan_file.proofs.Slots.{stand_for}
 
 -- a file of one column, and its descriptor
@@ -96,25 +98,29 @@ descriptor_within bytes head is some =
 pub other_rows : (fields : List (PlainField ℕ)) (bytes : List ℕ) (stated rows : ℕ) → StatesRows fields bytes stated → (stated ≡ rows → ⊥) → StandsIn fields rows bytes (Rows stated rows) 0
 other_rows fields bytes stated rows s differ = (s.small, s.file, s.regions, s.plain, s.page_before, refl, differ, refl)
 
-pub page_within : (fields : List (PlainField ℕ)) (bytes : List ℕ) (stated rows : ℕ) → StatesRows fields bytes stated → stated ≡ rows → 0 + 8 * rows ≤ length bytes
-page_within fields bytes stated rows s is =
-    omega (arith, is, s.page_before, s.regions.tables.columns, s.regions.tables.column_table, s.regions.tables.globals_table)
+pub page_within : (fields : List (PlainField ℕ)) (bytes : List ℕ) (stated rows size : ℕ) → StatesRows fields bytes stated → stated ≡ rows → size ≡ column_size fields * rows → 0 + size ≤ length bytes
+page_within fields bytes stated rows size s is size_is =
+    omega (arith, size_is ∙ ap (λ (n : ℕ). column_size fields * n) (sym is), s.page_before, s.regions.tables.columns, s.regions.tables.column_table, s.regions.tables.globals_table)
 
 -- the page of a plain file gives its rows
-pub gives : (f : PlainField ℕ) (bytes page : List ℕ) (stated rows : ℕ) (found : List (List Val)) → IsRequiredInt64 f → StatesRows (f ∷ []) bytes stated → stated ≡ rows → page ≡ part bytes 0 (8 * rows) → length page ≡ 8 * rows → IsPage page (map row_of found) → GivesRows (f ∷ []) rows bytes found
+pub gives : (f : PlainField ℕ) (bytes page : List ℕ) (stated rows : ℕ) (found : List (List Val)) → IsRequiredFixed f → StatesRows (f ∷ []) bytes stated → stated ≡ rows → page ≡ part bytes 0 (column_size (f ∷ []) * rows)
+    → length page ≡ column_size (f ∷ []) * rows → IsPage (type_of f) page (map row_of found) → GivesRows (f ∷ []) rows bytes found
 gives f bytes page stated rows found required s is read size p =
-    let count : length (map row_of found) ≡ rows = omega (arith, p.count, size) in
+    let count : length (map row_of found) ≡ rows = same_rows f (length (map row_of found)) rows required (p.count ∙ size) in
     let same : stated ≡ length (map row_of found) = is ∙ sym count in
     let P : ℕ → Type 0 = λ n. IsPlain (f ∷ []) bytes n in
+    let Q : List ℕ → Type 0 = λ l. StandAll (type_of f) l (map row_of found) [] in
+    let B : ℕ → Type 0 = λ n. column_size (f ∷ []) * n ≤ (footer_of bytes).columns_at in
+    let fit = rows_fit f (map row_of found) p.fit in
     record {
       small = s.small;
       holds = record {
         file = s.file;
         regions = s.regions;
         plain = subst P same s.plain;
-        page_before = omega (arith, same, s.page_before);
-        columns = stand_for f bytes (map row_of found) required (p.fit f required) (ap (λ (n : ℕ). part bytes 0 (8 * n)) count ∙ sym read ∙ sym p.spelled);
+        page_before = subst B same s.page_before;
+        columns = stand_for f bytes (map row_of found) required p.fit (subst Q (read ∙ ap (λ (n : ℕ). part bytes 0 (column_size (f ∷ []) * n)) (sym count)) p.values);
       };
       count = sym (length-map found row_of) ∙ count;
-      fit = p.fit f required;
+      fit = fit;
     }

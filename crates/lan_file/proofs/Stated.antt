@@ -1,5 +1,7 @@
 -- What is read of a descriptor's length.
-use Rattle.std.proofs.Common.{◌≡◌, refl, sym, ◌∙◌, ap, subst, ℕ, zero, suc, ◌*◌, ◌^◌, ◌<◌, List, [], ◌++◌, arith}
+use Rattle.std.proofs.Common.{◌≡◌, refl, sym, ◌∙◌, ap, subst, ℕ, zero, suc, ◌*◌, ◌/◌, ◌^◌, ◌<◌, ◌≤◌, List, [], ◌++◌, arith}
+use Rattle.std.proofs.Math.Nat.{mul-le-mul_left, mul-div-le}
+use Rattle.std.proofs.lemmas.Nat.{le-div}
 use Rattle.std.specs.Prelude.{Option, Some, None, Result, Ok}
 use Rattle.std.proofs.lemmas.List.{append-nil, append_cancel_left}
 use Rattle.lan_bytes.specs.Placed.{Placed}
@@ -18,6 +20,7 @@ use Rattle.lan_model.specs.Plain.{PlainField}
 use Rattle.lan_file.specs.Stage.{States}
 use Rattle.lan_file.specs.Stating.{IsLength, LengthOf, OnlyIf}
 use Rattle.lan_file.specs.Texts.{schema_text, descriptor_text}
+use Rattle.lan_file.specs.Widths.{column_size}
 use Rattle.lan_file.proofs.Unique.{same_number}
 
 spelled : (rows : ℕ) → 0 < rows → rows < 2 ^ 64 → Spells (num_field 2 rows) (numbered 0 2 rows)
@@ -59,14 +62,21 @@ only_length rest before after item None base bytes b of = λ n l.
 pub length_one : (rest : List ℕ) (m n : ℕ) → IsLength rest m → IsLength rest n → m ≡ n
 length_one rest m n a b = same_number m n a.some b.some a.fits b.fits (sym a.spelled ∙ b.spelled)
 
+-- so many times a size pass a greatest number, or don't
+pub too_many : (size n top : ℕ) → 0 < size → top / size < n → size * n ≤ top → ⊥
+too_many size n top some past within = omega (arith, le-div n top size some (omega (arith, within)), past)
+
+pub few_enough : (size n top : ℕ) → n ≤ top / size → size * n ≤ top
+few_enough size n top below = omega (arith, mul-le-mul_left size below, mul-div-le top size)
+
 -- what stands behind the schema in a descriptor of so many rows is their length
 pub stated_behind : (fields : List (PlainField ℕ)) (descriptor rest : List ℕ) (n : ℕ) → descriptor ≡ schema_text fields ++ rest → States fields descriptor n → IsLength rest n
 unfolding descriptor_text
-stated_behind fields descriptor rest n is s = record { some = s.some; fits = omega (arith, s.fits); spelled = append_cancel_left (schema_text fields) rest (num_field 2 n) (sym is ∙ s.spelled) }
+stated_behind fields descriptor rest n is s = record { some = s.some; fits = s.few; spelled = append_cancel_left (schema_text fields) rest (num_field 2 n) (sym is ∙ s.spelled) }
 
-pub behind_stated : (fields : List (PlainField ℕ)) (descriptor rest : List ℕ) (n : ℕ) → descriptor ≡ schema_text fields ++ rest → IsLength rest n → 8 * n < 2 ^ 64 → States fields descriptor n
+pub behind_stated : (fields : List (PlainField ℕ)) (descriptor rest : List ℕ) (n : ℕ) → descriptor ≡ schema_text fields ++ rest → IsLength rest n → column_size fields * n < 2 ^ 64 → States fields descriptor n
 unfolding descriptor_text
-behind_stated fields descriptor rest n is l fits = record { some = l.some; fits = fits; spelled = is ∙ ap (λ (r : List ℕ). schema_text fields ++ r) l.spelled }
+behind_stated fields descriptor rest n is l fits = record { some = l.some; few = l.fits; fits = fits; spelled = is ∙ ap (λ (r : List ℕ). schema_text fields ++ r) l.spelled }
 
 -- without the schema in front no number of rows is stated
 pub nothing_stated : (fields : List (PlainField ℕ)) (descriptor : List ℕ) (n : ℕ) → ((rest : List ℕ) → descriptor ≡ schema_text fields ++ rest → ⊥) → States fields descriptor n → ⊥

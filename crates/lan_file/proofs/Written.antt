@@ -1,5 +1,5 @@
 -- What is written of rows holds these rows.
-use Rattle.std.proofs.Common.{◌≡◌, refl, sym, ◌∙◌, ap, ℕ, ◌+◌, ◌*◌, ◌-◌, ◌^◌, ◌<◌, ◌≤◌, List, [], ◌∷◌, ◌++◌, length, drop, replicate, arith, length-append, append_assoc, ◌%◌}
+use Rattle.std.proofs.Common.{◌≡◌, refl, sym, ◌∙◌, ap, subst, ℕ, ◌+◌, ◌*◌, ◌-◌, ◌^◌, ◌<◌, ◌≤◌, List, [], ◌∷◌, ◌++◌, length, drop, replicate, arith, length-append, append_assoc, ◌%◌}
 use Rattle.std.specs.Prelude.{All, codes}
 use Rattle.std.proofs.Math.Seq.{drop-append_seam}
 use Rattle.std.proofs.lemmas.Nat.{from_le_bytes-to_le_bytes_8}
@@ -8,13 +8,15 @@ use Rattle.lan_model.specs.Table.{FitsRow}
 use Rattle.lan_file.specs.declared.tail.Footer.{Footer}
 use Rattle.lan_file.specs.declared.tail.Extent.{Extent}
 use Rattle.lan_file.specs.Numbers.{u16_bytes, u32_bytes, u64_bytes}
-use Rattle.lan_file.specs.Stage.{IsRequiredInt64}
+use Rattle.lan_file.specs.Stage.{IsRequiredFixed}
+use Rattle.lan_file.specs.Stating.{StandAll}
 use Rattle.lan_file.specs.Texts.{page_bytes, column_text, descriptor_text}
 use Rattle.lan_file.specs.Writing.{entry_text, footer_text, file_from, file_bytes}
 use Rattle.lan_file.specs.Parts.{part, tail_of, footer_in, footer_of, extent_in, extent, column_of, descriptor_of}
 use Rattle.lan_file.specs.Files.{HoldsRows}
+use Rattle.lan_file.specs.Widths.{column_size}
 use Rattle.lan_file.proofs.PartLemmas.{part-past, part-front, part-here}
-use Rattle.lan_file.proofs.Pages.{length-page_bytes}
+use Rattle.lan_file.proofs.Pages.{type_of, length-page_bytes, few_rows, fit_rows, page_stands}
 use Rattle.lan_file.proofs.Slots.{stand_for}
 
 abbrev written_footer : ℕ → ℕ → Footer
@@ -99,16 +101,18 @@ laid page column descriptor =
     }
 
 -- a file that is put together of a page and the writer's messages for so many rows holds them
-pub written_holds : (f : PlainField ℕ) (rows : List (List PlainValue)) → IsRequiredInt64 f → 0 < length rows → All (FitsRow (f ∷ [])) rows → length (file_bytes (f ∷ []) rows) < 2 ^ 64 → HoldsRows (f ∷ []) (file_bytes (f ∷ []) rows) rows
+pub written_holds : (f : PlainField ℕ) (rows : List (List PlainValue)) → IsRequiredFixed f → 0 < length rows → All (FitsRow (f ∷ [])) rows → length (file_bytes (f ∷ []) rows) < 2 ^ 64 → HoldsRows (f ∷ []) (file_bytes (f ∷ []) rows) rows
 unfolding file_bytes
 written_holds f rows is some fit small =
     let fields : List (PlainField ℕ) = f ∷ [] in
-    let page = page_bytes rows in
-    let column = column_text (length rows) in
+    let page = page_bytes fields rows in
+    let column = column_text fields (length rows) in
     let descriptor = descriptor_text fields (length rows) in
     let file = file_from page column descriptor in
     let l : Laid file page column descriptor = laid page column descriptor in
-    let size : length page ≡ 8 * length rows = length-page_bytes f rows is fit in
+    let size : length page ≡ column_size fields * length rows = length-page_bytes f rows is fit in
+    let room : column_size fields * length rows < 2 ^ 64 = omega (arith, size, l.page_before, l.descriptor_before, l.long, small) in
+    let P : List ℕ → Type 0 = λ bytes. StandAll (type_of f) bytes rows [] in
     let table = l.columns_at + length column in
     let here : footer_of file ≡ written_footer l.columns_at table =
     ap footer_in l.tail ∙ footer_read l.columns_at table (omega (arith, l.long, small)) (omega (arith, l.long, small)) in
@@ -151,11 +155,12 @@ written_holds f rows is some fit small =
         one = columns;
         stated = record {
           some = some;
-          fits = omega (arith, size, l.page_before, l.descriptor_before, l.long, small);
+          few = few_rows f (length rows) is room;
+          fits = room;
           spelled = ap (extent file) descriptor_is ∙ l.descriptor_part;
         };
         column = ap (extent file) column_is ∙ l.column_part;
       };
       page_before = omega (arith, size, l.page_before, l.descriptor_before, first_at);
-      columns = stand_for f file rows is fit (ap (λ (n : ℕ). part file 0 n) (sym size) ∙ l.page_part);
+      columns = stand_for f file rows is (fit_rows f rows is fit) (subst P (sym (ap (λ (n : ℕ). part file 0 n) (sym size) ∙ l.page_part)) (page_stands f rows is fit));
     }

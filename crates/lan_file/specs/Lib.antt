@@ -9,4 +9,5 @@ pub mod Reasons
 pub mod Stage
 pub mod Stating
 pub mod Texts
+pub mod Widths
 pub mod Writing

@@ -11,6 +11,7 @@ use Rattle.lan_file.specs.Parts.{part, footer_in, footer_of, column_of, descript
 use Rattle.lan_file.specs.Stage.{IsPlain}
 use Rattle.lan_file.specs.Reasons.{IsSmall}
 use Rattle.lan_file.specs.Stating.{ArePlain}
+use Rattle.lan_file.specs.Widths.{column_size}
 
 -- the last 40 bytes of a file of this version, whose tables are in order
 pub record IsTail (size : ℕ) (tail : List ℕ) (f : Footer) : Type 0 where
@@ -61,10 +62,10 @@ column_in head = part head.metadata (head.column.at - head.footer.columns_at) he
 
 -- how many rows a descriptor and column metadata 0 state, or why they state none
 abbrev pub JudgesPlain : List (PlainField ℕ) → Head → List ℕ → Result ℕ FileFault → Type 0
-JudgesPlain fields head descriptor (Ok rows) = ArePlain fields descriptor (column_in head) rows × (8 * rows ≤ head.footer.columns_at)
+JudgesPlain fields head descriptor (Ok rows) = ArePlain fields descriptor (column_in head) rows × (column_size fields * rows ≤ head.footer.columns_at)
 JudgesPlain fields head descriptor (Err (Outside Plain place)) = ((n : ℕ) → ArePlain fields descriptor (column_in head) n → ⊥) × (place ≡ head.footer.columns_at)
 JudgesPlain fields head descriptor (Err (Outside Region place)) =
-    ((n : ℕ) × ArePlain fields descriptor (column_in head) n × (head.footer.columns_at < 8 * n)) × (place ≡ head.footer.columns_at + length head.metadata)
+    ((n : ℕ) × ArePlain fields descriptor (column_in head) n × (head.footer.columns_at < column_size fields * n)) × (place ≡ head.footer.columns_at + length head.metadata)
 JudgesPlain fields head descriptor (Err Memory) = ⊤
 JudgesPlain fields head descriptor (Err fault) = ⊥
 
@@ -74,4 +75,4 @@ pub record StatesRows (fields : List (PlainField ℕ)) (bytes : List ℕ) (rows 
   pub file : IsFile bytes
   pub regions : HasRegions bytes
   pub plain : IsPlain fields bytes rows
-  pub page_before : 8 * rows ≤ (footer_of bytes).columns_at
+  pub page_before : column_size fields * rows ≤ (footer_of bytes).columns_at

@@ -11,6 +11,7 @@ use Rattle.lan_file.specs.declared.fault.FileReason.TheVariants.{Missing, Size, 
 use Rattle.lan_file.specs.Parts.{tail_of, footer_of, IsFile, HasRegions}
 use Rattle.lan_file.specs.Stage.{IsPlain}
 use Rattle.lan_file.specs.Files.{HoldsRows}
+use Rattle.lan_file.specs.Widths.{column_size}
 
 -- an object that is read has at most 2^30 bytes
 abbrev pub IsSmall : List ℕ → Type 0
@@ -18,7 +19,7 @@ IsSmall bytes = length bytes ≤ 2 ^ 30
 
 -- a part lies elsewhere, or the page of a file that is plain otherwise passes the column metadata
 abbrev pub BreaksRegions : List (PlainField ℕ) → List ℕ → Type 0
-BreaksRegions fields bytes = (HasRegions bytes → ⊥) ⊎ (HasRegions bytes × ((rows : ℕ) × IsPlain fields bytes rows × ((footer_of bytes).columns_at < 8 * rows)))
+BreaksRegions fields bytes = (HasRegions bytes → ⊥) ⊎ (HasRegions bytes × ((rows : ℕ) × IsPlain fields bytes rows × ((footer_of bytes).columns_at < column_size fields * rows)))
 
 -- the reason stands in the bytes at the place, and none before it does
 abbrev pub StandsIn : List (PlainField ℕ) → ℕ → List ℕ → FileReason → ℕ → Type 0
@@ -34,7 +35,7 @@ StandsIn fields rows bytes Descriptor place = IsSmall bytes × IsFile bytes × H
 StandsIn fields rows bytes Plain place =
     IsSmall bytes × IsFile bytes × HasRegions bytes × (0 < (footer_of bytes).globals) × ((n : ℕ) → IsPlain fields bytes n → ⊥) × (place ≡ (footer_of bytes).columns_at)
 StandsIn fields rows bytes (Rows stated asked) place =
-    IsSmall bytes × IsFile bytes × HasRegions bytes × IsPlain fields bytes stated × (8 * stated ≤ (footer_of bytes).columns_at) × (asked ≡ rows) × (stated ≢ rows) × (place ≡ 0)
+    IsSmall bytes × IsFile bytes × HasRegions bytes × IsPlain fields bytes stated × (column_size fields * stated ≤ (footer_of bytes).columns_at) × (asked ≡ rows) × (stated ≢ rows) × (place ≡ 0)
 
 -- the reason stands for what is held under the name, at the place
 abbrev pub Stands : List (PlainField ℕ) → ℕ → Option (List ℕ) → FileReason → ℕ → Type 0

@@ -24,4 +24,4 @@ file_from page column descriptor =
 
 -- the file of these rows of these fields
 unfoldable pub file_bytes : List (PlainField ℕ) → List (List PlainValue) → List ℕ
-file_bytes fields rows = file_from (page_bytes rows) (column_text (length rows)) (descriptor_text fields (length rows))
+file_bytes fields rows = file_from (page_bytes fields rows) (column_text fields (length rows)) (descriptor_text fields (length rows))

@@ -6,17 +6,17 @@ ghost use Rattle.lan_model.specs.Table.{FitsRow};
 ghost use Rattle.lan_file.specs.declared.fault.FileReason.{FileReason};
 ghost use Rattle.lan_file.specs.Files.{HoldsRows};
 ghost use Rattle.lan_file.specs.Reasons.{IsSmall, Stands};
-ghost use Rattle.lan_file.specs.Stage.{IsRequiredInt64};
+ghost use Rattle.lan_file.specs.Stage.{IsRequiredFixed};
 ghost use Rattle.lan_file.specs.Writing.{file_bytes};
 
 /// What is written of rows holds these rows.
 pub fn written_files_hold_their_rows()
-    ensures { (f : PlainField ℕ) (rows : List (List PlainValue)) → IsRequiredInt64 f → 0 < length rows → All (FitsRow (f ∷ [])) rows → length (file_bytes (f ∷ []) rows) < 2 ^ 64 → HoldsRows (f ∷ []) (file_bytes (f ∷ []) rows) rows }
+    ensures { (f : PlainField ℕ) (rows : List (List PlainValue)) → IsRequiredFixed f → 0 < length rows → All (FitsRow (f ∷ [])) rows → length (file_bytes (f ∷ []) rows) < 2 ^ 64 → HoldsRows (f ∷ []) (file_bytes (f ∷ []) rows) rows }
 {}
 
 /// Bytes hold one list of rows.
 pub fn files_hold_one_list()
-    ensures { (f : PlainField ℕ) (bytes : List ℕ) (xs ys : List (List PlainValue)) → IsRequiredInt64 f → All (FitsRow (f ∷ [])) xs → All (FitsRow (f ∷ [])) ys → HoldsRows (f ∷ []) bytes xs → HoldsRows (f ∷ []) bytes ys → xs ≡ ys }
+    ensures { (f : PlainField ℕ) (bytes : List ℕ) (xs ys : List (List PlainValue)) → IsRequiredFixed f → All (FitsRow (f ∷ [])) xs → All (FitsRow (f ∷ [])) ys → HoldsRows (f ∷ []) bytes xs → HoldsRows (f ∷ []) bytes ys → xs ≡ ys }
 {}
 
 /// Where an object of at most 2^30 bytes holds as many rows as are asked, no reason stands.

@@ -1,4 +1,4 @@
-//! Data files of one required int64 column in one page, written and read exactly.
+//! Data files of one required column of fixed width in one page, written and read exactly.
 #![tactic(auto)]
 
 mod asking;
@@ -12,6 +12,7 @@ mod tail;
 #[cfg(test)]
 mod tests;
 mod texts;
+mod widths;
 mod writing;
 
 pub use fault::{FileFault, FileReason};

@@ -6,13 +6,15 @@ ghost use Rattle.lan_store.specs.Objects.{object, TellsFailed};
 ghost use Rattle.lan_file.specs.Asking.{Asked, Reads};
 ghost use Rattle.lan_file.specs.Opening.{IsWithin, JudgesPlain, StatesRows, column_in};
 ghost use Rattle.lan_file.specs.Reasons.{GivesRows};
-ghost use Rattle.lan_file.specs.Stage.{IsRequiredInt64};
+ghost use Rattle.lan_file.specs.Stage.{IsRequiredFixed};
+ghost use Rattle.lan_file.specs.Widths.{column_size};
 
 use crate::asking::fetch;
 use crate::fault::{FileFault, FileReason};
 use crate::opening::{Head, read_head};
 use crate::page::rows_in;
 use crate::stating::plain_rows;
+use crate::widths::column_size;
 use lan_bytes::View;
 use lan_model::{Field, Rows};
 use lan_store::{Name, Store};
@@ -39,6 +41,7 @@ fn judge_plain(
     head: &Head,
     descriptor: &[u8],
 ) -> Result<u64, FileFault>
+    requires required { IsRequiredFixed (plain_field field.now) }
     requires one { head.now.footer.columns ≡ 1 }
     requires within { IsWithin head.now }
     requires long { length descriptor.now ≤ 2 ^ 63 }
@@ -47,7 +50,7 @@ fn judge_plain(
     let first = head.footer.columns_at;
     let column = column_in(head);
     match plain_rows(alloc, field, descriptor, column.bytes())? {
-        Some(rows) if 8 * rows > first => {
+        Some(rows) if column_size(field) * rows > first => {
             let end = first + head.metadata.len();
             Err(FileFault::Outside(FileReason::Region, end))
         }
@@ -63,9 +66,10 @@ fn read_stated<S: Store>(
     name: &Name,
     field: &Field,
 ) -> Result<u64, FileFault>
+    requires { IsRequiredFixed (plain_field field.now) }
     ensures asked { Asked S.objects S.failed S.faults S.gets S.clashes name.now 3 (IsErrOf result FileFault.Store) store.old store.new }
     ensures answer { ForSome (S.objects store.old) (λ all. (rows : ℕ) → Reads (plain_field field.now ∷ []) rows (StatesRows (plain_field field.now ∷ [])) (object all name.now) result) }
-    ensures page { IfOk result (λ rows. 8 * rows ≤ 2 ^ 30) }
+    ensures page { IfOk result (λ rows. column_size (plain_field field.now ∷ []) * rows ≤ 2 ^ 30) }
 {
     let head = read_head(alloc, store, name)?;
     let footer = head.footer;
@@ -81,7 +85,7 @@ fn read_stated<S: Store>(
     Ok(rows)
 }
 
-/// Reads the rows of a data file of one int64 column that has to hold so many, in at most four ranges:
+/// Reads the rows of a data file of one column of fixed width that has to hold so many, in at most four ranges:
 /// the footer, all from column metadata on, the descriptor, and the page.
 ///
 /// A file is read only in the writer's own spelling of its two messages, in version 2.1 of the Lance
@@ -94,7 +98,7 @@ pub fn read_plain<S: Store>(
     field: &Field,
     rows: u64,
 ) -> Result<Rows, FileFault>
-    requires { IsRequiredInt64 (plain_field field.now) }
+    requires { IsRequiredFixed (plain_field field.now) }
 
     // The object holds these rows, or the reason stands in it at the place.
     ensures answer { ForSome (S.objects store.old) (λ all. Reads (plain_field field.now ∷ []) rows (GivesRows (plain_field field.now ∷ []) rows) (object all name.now) result) }
@@ -111,7 +115,7 @@ pub fn read_plain<S: Store>(
     if stated != rows {
         return Err(FileFault::Outside(FileReason::Rows(stated, rows), 0));
     }
-    let page = fetch(alloc, store, name, 0, 8 * rows)?;
-    let found = rows_in(alloc, page.as_slice())?;
+    let page = fetch(alloc, store, name, 0, column_size(field) * rows)?;
+    let found = rows_in(alloc, &field.ty, rows, page.as_slice())?;
     Ok(found)
 }

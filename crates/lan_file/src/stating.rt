@@ -1,10 +1,11 @@
 // How many rows a file states, where its two messages have the writer's own spelling.
 ghost use Rattle.std.specs.Prelude.{◌≡◌, ◌≢◌, ℕ, ◌^◌, ◌≤◌, List, [], ◌∷◌, ◌++◌, length, IfOk, MatchOption};
 ghost use Rattle.lan_model.specs.Plain.{plain_field};
-ghost use Rattle.lan_file.specs.Stage.{States};
+ghost use Rattle.lan_file.specs.Stage.{IsRequiredFixed, States};
 ghost use Rattle.lan_file.specs.Stating.{IsLength, LengthOf, ArePlain, FoundIf, OnlyIf};
 
 use crate::texts::{column_text, schema_text};
+use crate::widths::column_size;
 use lan_bytes::View;
 use lan_model::Field;
 use lan_wire::{Fields, Item, Writer};
@@ -56,7 +57,8 @@ fn behind<'a>(whole: &'a [u8], front: &[u8]) -> Option<&'a [u8]>
 }
 
 fn stated_rows(alloc: Global, field: &Field, descriptor: &[u8]) -> Result<Option<u64>, AllocError>
-    requires { length descriptor.now ≤ 2 ^ 63 }
+    requires column { IsRequiredFixed (plain_field field.now) }
+    requires long { length descriptor.now ≤ 2 ^ 63 }
     ensures { IfOk result (FoundIf (States (plain_field field.now ∷ []) descriptor.now)) }
 {
     let schema = schema_text(alloc, field)?;
@@ -66,7 +68,7 @@ fn stated_rows(alloc: Global, field: &Field, descriptor: &[u8]) -> Result<Option
     let Some(rows) = length_in(alloc, rest)? else {
         return Ok(None);
     };
-    if rows > u64::MAX / 8 {
+    if rows > u64::MAX / column_size(field) {
         return Ok(None);
     }
     Ok(Some(rows))
@@ -79,13 +81,14 @@ pub fn plain_rows(
     descriptor: &[u8],
     column: &[u8],
 ) -> Result<Option<u64>, AllocError>
-    requires { length descriptor.now ≤ 2 ^ 63 }
+    requires column { IsRequiredFixed (plain_field field.now) }
+    requires long { length descriptor.now ≤ 2 ^ 63 }
     ensures { IfOk result (FoundIf (ArePlain (plain_field field.now ∷ []) descriptor.now column.now)) }
 {
     let Some(rows) = stated_rows(alloc, field, descriptor)? else {
         return Ok(None);
     };
-    let text = column_text(alloc, rows)?;
+    let text = column_text(alloc, field, rows)?;
     if text.as_slice() != column {
         return Ok(None);
     }

@@ -2,17 +2,19 @@
 ghost use Rattle.std.specs.Prelude.{◌≡◌, ◌*◌, ◌^◌, ◌<◌, [], ◌∷◌, IfOk};
 ghost use Rattle.lan_model.specs.Plain.{plain_field};
 ghost use Rattle.lan_file.specs.Texts.{layout_text, page_text, column_text, schema_text, descriptor_text};
+ghost use Rattle.lan_file.specs.Widths.{column_size};
 
+use crate::widths::{column_bits, column_size};
 use lan_model::{Field, FieldList, copy_field};
 use lan_schema::write_fields;
 use lan_wire::Writer;
 use std::alloc::{AllocError, Global};
 
-fn layout_text(alloc: Global, rows: u64) -> Result<Vec<u8>, AllocError>
-    ensures { IfOk result (λ text. text.items ≡ layout_text rows) }
+fn layout_text(alloc: Global, bits: u64, rows: u64) -> Result<Vec<u8>, AllocError>
+    ensures { IfOk result (λ text. text.items ≡ layout_text bits rows) }
 {
     let mut flat = Writer::new(alloc);
-    flat.num(1, 64)?;
+    flat.num(1, bits)?;
     let mut values = Writer::new(alloc);
     values.part(1, flat.finish().as_slice())?;
     let mut zip = Writer::new(alloc);
@@ -24,18 +26,18 @@ fn layout_text(alloc: Global, rows: u64) -> Result<Vec<u8>, AllocError>
     Ok(layout.finish())
 }
 
-fn page_text(alloc: Global, rows: u64) -> Result<Vec<u8>, AllocError>
-    requires { 8 * rows < 2 ^ 64 }
-    ensures { IfOk result (λ text. text.items ≡ page_text rows) }
+fn page_text(alloc: Global, field: &Field, rows: u64) -> Result<Vec<u8>, AllocError>
+    requires { column_size (plain_field field.now ∷ []) * rows < 2 ^ 64 }
+    ensures { IfOk result (λ text. text.items ≡ page_text (plain_field field.now ∷ []) rows) }
 {
-    let layout = layout_text(alloc, rows)?;
+    let layout = layout_text(alloc, column_bits(field), rows)?;
     let mut direct = Writer::new(alloc);
     direct.part(1, layout.as_slice())?;
     let mut encoding = Writer::new(alloc);
     encoding.part(2, direct.finish().as_slice())?;
     let mut page = Writer::new(alloc);
     page.packed(1, &[0])?;
-    page.packed(2, &[8 * rows])?;
+    page.packed(2, &[column_size(field) * rows])?;
     page.num(3, rows)?;
     page.part(4, encoding.finish().as_slice())?;
     Ok(page.finish())
@@ -43,11 +45,11 @@ fn page_text(alloc: Global, rows: u64) -> Result<Vec<u8>, AllocError>
 
 // The metadata of the column.
 #[tactic(auto, unfolding(crate::specs::Texts::column_text))]
-pub fn column_text(alloc: Global, rows: u64) -> Result<Vec<u8>, AllocError>
-    requires { 8 * rows < 2 ^ 64 }
-    ensures { IfOk result (λ text. text.items ≡ column_text rows) }
+pub fn column_text(alloc: Global, field: &Field, rows: u64) -> Result<Vec<u8>, AllocError>
+    requires { column_size (plain_field field.now ∷ []) * rows < 2 ^ 64 }
+    ensures { IfOk result (λ text. text.items ≡ column_text (plain_field field.now ∷ []) rows) }
 {
-    let page = page_text(alloc, rows)?;
+    let page = page_text(alloc, field, rows)?;
     let mut column = Writer::new(alloc);
     column.part(2, page.as_slice())?;
     Ok(column.finish())

@@ -1,4 +1,5 @@
 pub mod ColumnItems
+pub mod ColumnText
 pub mod DistinctIds
 pub mod FragmentItems
 pub mod Listing

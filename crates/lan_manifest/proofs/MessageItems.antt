@@ -1,26 +1,28 @@
 -- What the message of a manifest gives.
-use Rattle.std.proofs.Common.{◌≡◌, ℕ, zero, suc, ◌+◌, ◌^◌, ◌<◌, ◌≤◌, false, List, [], ◌∷◌, ◌++◌, length, Option, Some, None, Ok, refl, sym, ap, subst, ◌∙◌, arith, append-nil, length-append}
-use Rattle.std.specs.Prelude.{All, IfSome, codes, flat_map, is_some, negsuc}
+use Rattle.std.proofs.Common.{◌≡◌, ℕ, zero, suc, ◌+◌, ◌^◌, ◌<◌, false, List, [], ◌∷◌, ◌++◌, length, Option, Some, None, Ok, refl, sym, ap, subst, ◌∙◌, arith, length-append}
+use Rattle.std.specs.Prelude.{All, IfSome, flat_map, is_some, negsuc}
 use Rattle.std.specs.List.{list_any}
 use Rattle.std.proofs.lemmas.Bool.{lt-ltb}
 use Rattle.lan_bytes.specs.Placed.{Placed}
 use Rattle.lan_model.specs.Plain.{PlainField, fields_from}
 use Rattle.lan_wire.specs.declared.item.Item.{Item}
-use Rattle.lan_wire.specs.Spelling.{varint, key, num_field, part_field, part_item, two_complement}
+use Rattle.lan_wire.specs.Spelling.{num_field, part_item}
 use Rattle.lan_wire.specs.Spells.{Items, numbered, part_placed}
 use Rattle.lan_wire.proofs.MessageLaws.{items_append}
-use Rattle.lan_schema.specs.FieldMessage.{flag}
-use Rattle.lan_schema.specs.FieldTree.{all_messages, signed}
+use Rattle.lan_schema.specs.FieldMessage.{SaysField, flag}
+use Rattle.lan_schema.specs.FieldTree.{all_messages}
 use Rattle.lan_manifest.specs.declared.manifest.Fragment.{Fragment}
-use Rattle.lan_manifest.specs.Columns.{IsName, first_field, field_message}
+use Rattle.lan_manifest.specs.Columns.{IsColumn, column_flat, column_message}
 use Rattle.lan_manifest.specs.Manifests.{PlainManifest, fragment_text, greatest_text, has_deletions, manifest_text}
 use Rattle.lan_manifest.specs.Readable.{IsReadable, SpellFragments}
 use Rattle.lan_manifest.specs.Reads.{IsManifest}
 use Rattle.lan_manifest.specs.Stage.{IsOneColumn, IsOneFile}
 use Rattle.lan_manifest.specs.Walks.{first_of, maybe_small_in, part_in}
+use Rattle.lan_manifest.proofs.ColumnItems.{message_at, column_says}
+use Rattle.lan_manifest.proofs.ColumnText.{column_text}
 use Rattle.lan_manifest.proofs.FragmentItems.{fragment_short}
 use Rattle.lan_manifest.proofs.OneManifest.{column_in, none_is}
-use Rattle.lan_manifest.proofs.WrittenItems.{number_items, number_alone, number_written, part_first, part_field_short, number_short}
+use Rattle.lan_manifest.proofs.WrittenItems.{number_items, number_alone, number_written, part_first, part_long}
 
 -- ---- the fragments
 
@@ -84,55 +86,28 @@ none_deleted (f ∷ fs) each =
     let none : f.deletion ≡ None = none_is f.deletion each.0.one.none_deleted in
     rw (none, none_deleted fs each.1) refl
 
-abbrev message_of : List ℕ → List Fragment → ℕ → Option ℕ → List ℕ
-message_of name fs version greatest = part_item 1 (field_message name) ++ (texts_of fs ++ (num_field 3 version ++ greatest_text greatest))
+abbrev message_of : PlainField ℕ → List Fragment → ℕ → Option ℕ → List ℕ
+message_of f fs version greatest = part_item 1 (column_message f) ++ (texts_of fs ++ (num_field 3 version ++ greatest_text greatest))
 
-message_is : (m : PlainManifest) (name : List ℕ) → m.fields ≡ first_field name ∷ [] → Each m.fragments → manifest_text m ≡ message_of name m.fragments m.version m.greatest
+message_is : (m : PlainManifest) (f : PlainField ℕ) → m.fields ≡ f ∷ [] → IsColumn f → Each m.fragments → manifest_text m ≡ message_of f m.fragments m.version m.greatest
 unfolding manifest_text
-message_is m name fields each =
-    let columns : all_messages 1 (negsuc 0) (fields_from m.fields) ≡ part_item 1 (field_message name) =
-    ap (λ (l : List (PlainField ℕ)). all_messages 1 (negsuc 0) (fields_from l)) fields ∙ append-nil (part_item 1 (field_message name) ++ []) ∙ append-nil (part_item 1 (field_message name)) in
+message_is m f fields is each =
+    let columns : all_messages 1 (negsuc 0) (fields_from m.fields) ≡ part_item 1 (column_message f) = ap (λ (l : List (PlainField ℕ)). all_messages 1 (negsuc 0) (fields_from l)) fields ∙ column_text f is in
     let flags : has_deletions m ≡ false = none_deleted m.fragments each in
     λ i. columns i ++ (texts_of m.fragments ++ (num_field 3 m.version ++ (num_field 9 (flag (flags i)) ++ (num_field 10 (flag (flags i)) ++ greatest_text m.greatest))))
-
-field_short : (name : List ℕ) → IsName name → length (field_message name) < 2 ^ 64
-field_short name is =
-    let one = num_field 1 2 in
-    let two = one ++ part_field 2 name in
-    let three = two ++ num_field 3 (two_complement (signed 0)) in
-    let four = three ++ num_field 4 (two_complement (negsuc 0)) in
-    let five = four ++ part_field 5 (codes "int64") in
-    let six = five ++ num_field 6 0 in
-    let short : length six ≤ 70000 =
-    omega (
-      arith,
-      length-append one (part_field 2 name),
-      length-append two (num_field 3 (two_complement (signed 0))),
-      length-append three (num_field 4 (two_complement (negsuc 0))),
-      length-append four (part_field 5 (codes "int64")),
-      length-append five (num_field 6 0),
-      number_short 1 2,
-      part_field_short 2 name,
-      number_short 3 (two_complement (signed 0)),
-      number_short 4 (two_complement (negsuc 0)),
-      part_field_short 5 (codes "int64"),
-      number_short 6 0,
-      is.short,
-    ) in
-    omega (arith, short)
 
 -- what the message gives, wherever it lies
 pub record MessageGives (at : ℕ) (m : PlainManifest) : Type 0 where
   pub items : List Item
   pub spelled : Items at (manifest_text m) items
-  pub name : List ℕ
-  pub is_name : IsName name
-  pub field : Placed
-  pub field_is : field.bytes ≡ field_message name
-  pub column : part_in (first_of 1 items) ≡ Ok field
+  pub column : PlainField ℕ
+  pub is_column : IsColumn column
+  pub part : Placed
+  pub says : SaysField part (column_flat column)
+  pub found : part_in (first_of 1 items) ≡ Ok part
   pub fragments : SpellFragments items m.fragments
   pub greatest : maybe_small_in (first_of 11 items) ≡ Ok m.greatest
-  pub fields : m.fields ≡ first_field name ∷ []
+  pub fields : m.fields ≡ column ∷ []
 
 readable : (fs : List Fragment) → All IsReadable fs → Each fs
 readable [] all = tt
@@ -141,28 +116,31 @@ readable (f ∷ fs) all = (all 0 f (omega arith), readable fs (λ k d below. all
 pub are_readable : (m : PlainManifest) → IsManifest m → All IsOneFile m.fragments → All IsReadable m.fragments
 are_readable m rules files k d below = record { one = files k d below; files = rules.files k d below; id = rules.ids k d below; rows = rules.rows k d below }
 
-pub message_gives : (at : ℕ) (m : PlainManifest) → m.version < 2 ^ 64 → IsManifest m → IsOneColumn m.fields → All IsOneFile m.fragments → MessageGives at m
-message_gives at m small rules column files =
-    let one = column_in m.fields column in
+pub message_gives : (at : ℕ) (m : PlainManifest) → m.version < 2 ^ 64 → IsManifest m → IsOneColumn m.fields → All IsOneFile m.fragments → length (manifest_text m) < 2 ^ 63 → MessageGives at m
+message_gives at m small rules column files short =
+    let (f, (fields, is)) = column_in m.fields column in
     let each = readable m.fragments (are_readable m rules files) in
-    let field = field_message one.0 in
-    let second = at + length (part_item 1 field) in
+    let message = column_message f in
+    let behind = texts_of m.fragments ++ (num_field 3 m.version ++ greatest_text m.greatest) in
+    let second = at + length (part_item 1 message) in
     let third = second + length (texts_of m.fragments) in
     let fourth = third + length (num_field 3 m.version) in
     let last = end_items third fourth m.version m.greatest in
-    let items = part_placed at 1 field ∷ (fragment_items m.fragments second ++ last) in
+    let items = part_placed at 1 message ∷ (fragment_items m.fragments second ++ last) in
+    let text = message_is m f fields is each in
+    let fits : length (part_item 1 message) < 2 ^ 63 = omega (arith, short, ap length text, length-append (part_item 1 message) behind) in
     record {
       items = items;
-      spelled = subst (λ (t : List ℕ). Items at t items) (sym (message_is m one.0 one.1.0 each))
-          (part_first at 1 field (texts_of m.fragments ++ (num_field 3 m.version ++ greatest_text m.greatest)) (fragment_items m.fragments second ++ last) (omega arith) (omega arith) (field_short one.0 one.1.1)
+      spelled = subst (λ (t : List ℕ). Items at t items) (sym text)
+          (part_first at 1 message behind (fragment_items m.fragments second ++ last) (omega arith) (omega arith) (omega (arith, fits, part_long 1 message))
           (items_append second (texts_of m.fragments) (num_field 3 m.version ++ greatest_text m.greatest) (fragment_items m.fragments second) last (fragments_written m.fragments second each)
           (items_append third (num_field 3 m.version) (greatest_text m.greatest) (number_items third 3 m.version) (greatest_items fourth m.greatest) (number_written third 3 m.version (omega arith) (omega arith) small) (greatest_written fourth m.greatest rules.greatest))));
-      name = one.0;
-      is_name = one.1.1;
-      field = record { base = at + length (key 1 2) + length (varint (length field)); bytes = field };
-      field_is = refl;
-      column = refl;
+      column = f;
+      is_column = is;
+      part = message_at at message;
+      says = column_says at f is fits;
+      found = refl;
       fragments = (λ is. absurd (omega (arith, is)), λ other. fragments_spell m.fragments second last each (end_spells third fourth m.version m.greatest));
       greatest = ap maybe_small_in (past_fragments m.fragments second last) ∙ end_gives third fourth m.version m.greatest rules.greatest;
-      fields = one.1.0;
+      fields = fields;
     }

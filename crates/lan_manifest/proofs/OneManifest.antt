@@ -1,57 +1,22 @@
 -- An object is read as one manifest only.
-use Rattle.std.proofs.Common.{◌≡◌, inl, inr, refl, sym, ◌∙◌, ap, subst, ℕ, zero, suc, ◌-◌, ◌%◌, ◌^◌, ◌<◌, ◌≤◌, List, [], ◌∷◌, ◌++◌, length, arith, append_assoc, append-nil, length-append, Bool, false}
-use Rattle.std.specs.Prelude.{Option, Some, None, is_some, codes, flat_map, All, IsNone, nat_lt, negsuc}
-use Rattle.std.proofs.lemmas.Bool.{cases_Bool}
+use Rattle.std.proofs.Common.{◌≡◌, refl, sym, ◌∙◌, ap, subst, ℕ, suc, ◌-◌, ◌%◌, ◌^◌, ◌<◌, ◌≤◌, List, [], ◌∷◌, ◌++◌, length, arith, append_assoc, append-nil, Bool}
+use Rattle.std.specs.Prelude.{Option, Some, None, is_some, codes, flat_map, All, IsNone, negsuc}
 use Rattle.std.proofs.lemmas.List.{append_cancel_left, append_cancel_right}
 use Rattle.std.specs.List.{list_any}
 use Rattle.std.specs.Int.{to_le_bytes, w16, w32, w64}
-use Rattle.lan_wire.specs.Spelling.{varint_within, varint, key, num_field, num_item, part_field, part_item, packed_field, two_complement}
-use Rattle.lan_model.specs.declared.tree.Primitive.TheVariants as p
-use Rattle.lan_model.specs.Plain.{PlainField, field, primitive, fields_from}
+use Rattle.lan_wire.specs.Spelling.{varint, key, num_field, num_item, part_item, packed_field}
+use Rattle.lan_model.specs.Plain.{PlainField, fields_from}
 use Rattle.lan_schema.specs.FieldMessage.{flag}
 use Rattle.lan_schema.specs.FieldTree.{all_messages}
-use Rattle.lan_manifest.specs.Columns.{IsName, first_field, field_message}
+use Rattle.lan_manifest.specs.Columns.{IsColumn, column_message}
 use Rattle.lan_manifest.specs.declared.manifest.Deletion.{Deletion}
 use Rattle.lan_manifest.specs.declared.manifest.Fragment.{Fragment}
 use Rattle.lan_manifest.specs.Manifests.{PlainManifest, file_text, fragment_text, greatest_text, manifest_text, has_deletions, framed}
 use Rattle.lan_manifest.specs.Readable.{one_file, one_fragment}
 use Rattle.lan_manifest.specs.Reads.{IsFile, ManifestOf}
 use Rattle.lan_manifest.specs.Stage.{IsOneColumn, IsOneFile}
-use Rattle.lan_manifest.proofs.Spellings.{varint_splits, parts_split, part_splits, num_splits}
-
-within_some : (more n : ℕ) → 0 < length (varint_within more n)
-unfolding varint_within
-within_some zero n = omega arith
-within_some (suc more) n = elim (cases_Bool (nat_lt n 128)) [
-  | inl small ↦ rw small (omega arith)
-  | inr large ↦ rw large (omega arith)
-]
-
-varint_some : (n : ℕ) → 0 < length (varint n)
-unfolding varint
-varint_some n = within_some 9 n
-
-item_some : (number n : ℕ) → num_item number n ≡ [] → ⊥
-item_some number n e = omega (arith, ap length e, length-append (key number 0) (varint n), varint_some n)
-
-pub last_number : (number n m : ℕ) → num_field number n ≡ num_field number m → n ≡ m
-last_number number zero zero is = refl
-last_number number (suc n) (suc m) is = (num_splits number (suc n) (suc m) [] [] (ap (λ l. l ++ []) is)).0
-last_number number zero (suc m) is = absurd (item_some number (suc m) (sym is))
-last_number number (suc n) zero is = absurd (item_some number (suc n) is)
-
--- a number that may be left out, before a part
-pub field_splits : (n m : ℕ) (us vs xs ys : List ℕ) → num_field 1 n ++ (part_item 2 us ++ xs) ≡ num_field 1 m ++ (part_item 2 vs ++ ys) → (n ≡ m) × (part_item 2 us ++ xs ≡ part_item 2 vs ++ ys)
-field_splits zero zero us vs xs ys is = (refl, is)
-field_splits (suc n) (suc m) us vs xs ys is = num_splits 1 (suc n) (suc m) (part_item 2 us ++ xs) (part_item 2 vs ++ ys) is
-field_splits zero (suc m) us vs xs ys is =
-    let keys = varint_splits 18 8 ((varint (length us) ++ us) ++ xs) (varint (suc m) ++ (part_item 2 vs ++ ys))
-    (sym (append_assoc (key 2 2) (varint (length us) ++ us) xs) ∙ is ∙ append_assoc (key 1 0) (varint (suc m)) (part_item 2 vs ++ ys)) in
-    absurd (omega (arith, keys.0))
-field_splits (suc n) zero us vs xs ys is =
-    let keys = varint_splits 8 18 (varint (suc n) ++ (part_item 2 us ++ xs)) ((varint (length vs) ++ vs) ++ ys)
-    (sym (append_assoc (key 1 0) (varint (suc n)) (part_item 2 us ++ xs)) ∙ is ∙ append_assoc (key 2 2) (varint (length vs) ++ vs) ys) in
-    absurd (omega (arith, keys.0))
+use Rattle.lan_manifest.proofs.ColumnText.{column_text, same_column}
+use Rattle.lan_manifest.proofs.Spellings.{varint_splits, parts_split, part_splits, num_splits, item_some, last_number, field_splits}
 
 -- what stands behind a path
 abbrev pub behind_path : List ℕ
@@ -142,30 +107,9 @@ texts_are : (ps : List Plain) → flat_map (λ f. part_item 2 (fragment_text f))
 texts_are [] = refl
 texts_are (f ∷ fs) = ap (λ l. part_item 2 (fragment_text (fragment_of f)) ++ l) (texts_are fs)
 
-pub column_in : (fields : List (PlainField ℕ)) → IsOneColumn fields → (name : List ℕ) × ((fields ≡ first_field name ∷ []) × IsName name)
-column_in (field id name false (primitive p.Int64) ∷ []) is = (name, ((λ i. field (is.0 i) name false (primitive p.Int64) ∷ []), record { some = is.1; short = is.2; text = is.3 }))
+pub column_in : (fields : List (PlainField ℕ)) → IsOneColumn fields → (f : PlainField ℕ) × ((fields ≡ f ∷ []) × IsColumn f)
+column_in (f ∷ []) is = (f, (refl, is))
 column_in fields is = absurd is
-
--- what stands behind a name
-abbrev behind_name : List ℕ
-behind_name = num_field 3 0 ++ (num_field 4 (two_complement (negsuc 0)) ++ (part_field 5 (codes "int64") ++ num_field 6 0))
-
-field_is : (b : ℕ) (name : List ℕ) → field_message (b ∷ name) ≡ num_field 1 2 ++ (part_item 2 (b ∷ name) ++ behind_name)
-field_is b name =
-    let first = num_field 1 2 in
-    let second = part_item 2 (b ∷ name) in
-    let third = num_field 3 0 in
-    let fourth = num_field 4 (two_complement (negsuc 0)) in
-    let fifth = part_field 5 (codes "int64") in
-    let sixth = num_field 6 0 in
-    append_assoc (first ++ second ++ third ++ fourth) fifth sixth ∙ append_assoc (first ++ second ++ third) fourth (fifth ++ sixth) ∙ append_assoc (first ++ second) third (fourth ++ (fifth ++ sixth)) ∙ append_assoc first second (third ++ (fourth ++ (fifth ++ sixth)))
-
-same_column : (us vs : List ℕ) → 0 < length us → 0 < length vs → field_message us ≡ field_message vs → us ≡ vs
-same_column [] vs some also is = absurd (omega (arith, some))
-same_column (u ∷ us) [] some also is = absurd (omega (arith, also))
-same_column (u ∷ us) (v ∷ vs) some also is =
-    let parts = field_splits 2 2 (u ∷ us) (v ∷ vs) behind_name behind_name (sym (field_is u us) ∙ is ∙ field_is v vs) in
-    (part_splits 2 (u ∷ us) (v ∷ vs) behind_name behind_name parts.1).0
 
 same_frame : (us vs : List ℕ) → framed us ≡ framed vs → us ≡ vs
 unfolding framed
@@ -186,13 +130,12 @@ abbrev tail_at : Bool → Option ℕ → List ℕ
 tail_at deletions greatest = num_field 9 (flag deletions) ++ (num_field 10 (flag deletions) ++ greatest_text greatest)
 
 -- the text of a manifest that the stage reads
-text_of : (m : PlainManifest) (name : List ℕ) (ps : List Plain) (w : ℕ) → m.fields ≡ first_field name ∷ [] → fragments_of ps ≡ m.fragments → m.version ≡ suc w
-    → manifest_text m ≡ part_item 1 (field_message name) ++ (texts ps ++ (num_item 3 (suc w) ++ tail_at (has_deletions m) m.greatest))
+text_of : (m : PlainManifest) (f : PlainField ℕ) (ps : List Plain) (w : ℕ) → IsColumn f → m.fields ≡ f ∷ [] → fragments_of ps ≡ m.fragments → m.version ≡ suc w
+    → manifest_text m ≡ part_item 1 (column_message f) ++ (texts ps ++ (num_item 3 (suc w) ++ tail_at (has_deletions m) m.greatest))
 unfolding manifest_text
-text_of m name ps w fields fragments version =
+text_of m f ps w is fields fragments version =
     let are : flat_map (λ f. part_item 2 (fragment_text f)) m.fragments ≡ texts ps = ap (λ (l : List Fragment). flat_map (λ f. part_item 2 (fragment_text f)) l) (sym fragments) ∙ texts_are ps in
-    let columns : all_messages 1 (negsuc 0) (fields_from m.fields) ≡ part_item 1 (field_message name) =
-    ap (λ (l : List (PlainField ℕ)). all_messages 1 (negsuc 0) (fields_from l)) fields ∙ append-nil (part_item 1 (field_message name) ++ []) ∙ append-nil (part_item 1 (field_message name)) in
+    let columns : all_messages 1 (negsuc 0) (fields_from m.fields) ≡ part_item 1 (column_message f) = ap (λ (l : List (PlainField ℕ)). all_messages 1 (negsuc 0) (fields_from l)) fields ∙ column_text f is in
     λ i. columns i ++ (are i ++ (num_field 3 (version i) ++ tail_at (has_deletions m) m.greatest))
 
 same_tail : (m n : PlainManifest) → m.fragments ≡ n.fragments → tail_at (has_deletions m) m.greatest ≡ tail_at (has_deletions n) n.greatest → m.greatest ≡ n.greatest
@@ -211,11 +154,11 @@ one_manifest bytes version m n some a b =
     let next : version ≡ suc (version - 1) = omega (arith, some) in
     let left = texts ps.0 ++ (num_item 3 (suc (version - 1)) ++ tail_at (has_deletions m) m.greatest) in
     let right = texts qs.0 ++ (num_item 3 (suc (version - 1)) ++ tail_at (has_deletions n) n.greatest) in
-    let whole = sym (text_of m first.0 ps.0 (version - 1) first.1.0 ps.1.0 (a.numbered ∙ next)) ∙ same_frame (manifest_text m) (manifest_text n) (sym a.written.spelled ∙ b.written.spelled)
-    ∙ text_of n second.0 qs.0 (version - 1) second.1.0 qs.1.0 (b.numbered ∙ next) in
-    let columns = part_splits 1 (field_message first.0) (field_message second.0) left right whole in
+    let whole = sym (text_of m first.0 ps.0 (version - 1) first.1.1 first.1.0 ps.1.0 (a.numbered ∙ next)) ∙ same_frame (manifest_text m) (manifest_text n) (sym a.written.spelled ∙ b.written.spelled)
+    ∙ text_of n second.0 qs.0 (version - 1) second.1.1 second.1.0 qs.1.0 (b.numbered ∙ next) in
+    let columns = part_splits 1 (column_message first.0) (column_message second.0) left right whole in
     let parts = same_fragments ps.0 qs.0 (suc (version - 1)) (suc (version - 1)) (tail_at (has_deletions m) m.greatest) (tail_at (has_deletions n) n.greatest) ps.1.1 qs.1.1 columns.1 in
-    let fields : m.fields ≡ n.fields = first.1.0 ∙ ap (λ name. first_field name ∷ []) (same_column first.0 second.0 first.1.1.some second.1.1.some columns.0) ∙ sym second.1.0 in
+    let fields : m.fields ≡ n.fields = first.1.0 ∙ ap (λ f. f ∷ []) (same_column first.0 second.0 first.1.1 second.1.1 columns.0) ∙ sym second.1.0 in
     let fragments : m.fragments ≡ n.fragments = sym ps.1.0 ∙ parts.0 ∙ qs.1.0 in
     let tails = num_splits 3 (suc (version - 1)) (suc (version - 1)) (tail_at (has_deletions m) m.greatest) (tail_at (has_deletions n) n.greatest) parts.1 in
     let greatest = same_tail m n fragments tails.1 in

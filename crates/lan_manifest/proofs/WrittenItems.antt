@@ -36,3 +36,6 @@ number_short number (suc n) = omega (arith, length-append (key number 0) (varint
 pub part_field_short : (number : ℕ) (bytes : List ℕ) → length (part_field number bytes) ≤ 20 + length bytes
 part_field_short number [] = omega arith
 part_field_short number (b ∷ bytes) = part_short number (b ∷ bytes)
+
+pub part_long : (number : ℕ) (bytes : List ℕ) → length bytes ≤ length (part_item number bytes)
+part_long number bytes = omega (arith, length-append (key number 2) (varint (length bytes) ++ bytes), length-append (varint (length bytes)) bytes)

@@ -1,24 +1,20 @@
 -- The one column of a manifest, and its message.
-use Rattle.std.specs.Prelude.{ℕ, ◌<◌, ◌≤◌, false, IsTrue, List, length, codes, negsuc}
+use Rattle.std.specs.Prelude.{◌≡◌, ℕ, ◌<◌, false, IsTrue, List, length, negsuc}
 use Rattle.std.specs.Str.{is_utf8}
-use Rattle.lan_model.specs.declared.tree.Primitive.TheVariants as p
-use Rattle.lan_model.specs.Plain.{PlainField, field, primitive}
+use Rattle.lan_model.specs.Plain.{PlainField, field}
 use Rattle.lan_schema.specs.FieldMessage.{Flat, field_text}
-use Rattle.lan_schema.specs.FieldTree.{signed}
+use Rattle.lan_schema.specs.FieldTree.{kind_of, logical_of, signed}
+use Rattle.lan_schema.specs.Logical.{IsFixedType}
 
--- what names a column
-pub record IsName (name : List ℕ) : Type 0 where
-  pub some : 0 < length name
-  pub short : length name ≤ 65536
-  pub text : IsTrue (is_utf8 name)
+-- a column of fixed width that is never null, numbered 0, and its name is a text
+abbrev pub IsColumn : PlainField ℕ → Type 0
+IsColumn (field id name false ty) = (id ≡ 0) × (0 < length name) × IsTrue (is_utf8 name) × IsFixedType ty
+IsColumn f = ⊥
 
--- the one column of a name
-abbrev pub first_field : List ℕ → PlainField ℕ
-first_field name = field 0 name false (primitive p.Int64)
+-- what the message of a column says
+abbrev pub column_flat : PlainField ℕ → Flat
+column_flat (field id name nullable ty) = record { name = name; id = signed id; parent = negsuc 0; logical = logical_of ty; nullable = nullable }
 
--- what its message says
-abbrev pub first_flat : List ℕ → Flat
-first_flat name = record { name = name; id = signed 0; parent = negsuc 0; logical = codes "int64"; nullable = false }
-
-abbrev pub field_message : List ℕ → List ℕ
-field_message name = field_text 2 (first_flat name)
+-- that message
+abbrev pub column_message : PlainField ℕ → List ℕ
+column_message (field id name nullable ty) = field_text (kind_of ty) (column_flat (field id name nullable ty))

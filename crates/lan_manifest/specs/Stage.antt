@@ -1,14 +1,13 @@
 -- What of the manifests is read so far, each as a factor of the definition that it narrows.
-use Rattle.std.specs.Prelude.{◌≡◌, ℕ, ◌<◌, ◌≤◌, List, [], ◌∷◌, length, false, IsTrue, IsNone, All, pos}
-use Rattle.std.specs.Str.{is_utf8}
-use Rattle.lan_model.specs.declared.tree.Primitive.TheVariants as p
-use Rattle.lan_model.specs.Plain.{PlainField, field, primitive}
+use Rattle.std.specs.Prelude.{◌≡◌, ℕ, List, [], ◌∷◌, IsNone, All, pos}
+use Rattle.lan_model.specs.Plain.{PlainField}
+use Rattle.lan_manifest.specs.Columns.{IsColumn}
 use Rattle.lan_manifest.specs.Manifests.{PlainManifest, framed, manifest_text}
 use Rattle.lan_manifest.specs.declared.manifest.Fragment.{Fragment}
 
--- the fields are one column of int64 that is never null, numbered 0, and its name is a text
+-- the fields are one column of fixed width that is never null
 abbrev pub IsOneColumn : List (PlainField ℕ) → Type 0
-IsOneColumn (field id name false (primitive p.Int64) ∷ []) = (id ≡ 0) × (0 < length name) × (length name ≤ 65536) × IsTrue (is_utf8 name)
+IsOneColumn (f ∷ []) = IsColumn f
 IsOneColumn fields = ⊥
 
 -- one data file, which gives the one column, and no deleted row

@@ -1,55 +1,93 @@
 // The column from the message of a manifest.
-ghost use Rattle.std.specs.Prelude.{◌≡◌, List, [], ◌∷◌, map, ℕ, Ok, IfOk};
+ghost use Rattle.std.specs.Prelude.{◌≡◌, ◌<◌, ◌↔◌, List, [], ◌∷◌, length, map, ℕ, false, Ok, IfOk, IsTrue};
+ghost use Rattle.std.specs.Str.{is_utf8};
 ghost use Rattle.lan_bytes.specs.Placed.{Placed};
-ghost use Rattle.lan_model.specs.Plain.{plain_field};
+ghost use Rattle.lan_model.specs.Plain.{PlainType, PlainField, field, plain_type, plain_field};
+ghost use Rattle.lan_schema.specs.FieldMessage.{SaysField};
+ghost use Rattle.lan_schema.specs.FieldTree.{logical_of};
+ghost use Rattle.lan_schema.specs.Logical.{IsLeafType, IsFixedType};
 ghost use Rattle.lan_wire.specs.declared.item.Item.{Item};
 ghost use Rattle.lan_wire.specs.Spells.{Items};
-ghost use Rattle.lan_manifest.specs.Columns.{IsName, first_field, field_message};
+ghost use Rattle.lan_manifest.specs.Columns.{IsColumn, column_flat};
 ghost use Rattle.lan_manifest.specs.Stage.{IsOneColumn};
 ghost use Rattle.lan_manifest.specs.Walks.{first_of, part_in, GivesBack};
 
 use crate::items::part_in;
 use crate::reading::ManifestFault;
 use lan_bytes::View;
-use lan_model::{Field, FieldList, Primitive, Text, Ty};
-use lan_schema::read_entry;
+use lan_model::{Field, FieldList, Text, Ty};
+use lan_schema::{leaf_type, read_entry};
 use std::alloc::{AllocError, Global};
 
-const MAX_NAME: usize = 65_536;
-
-// The name in the message of a field.
-fn read_name(alloc: Global, field: &View<'_>) -> Result<Text, ManifestFault>
-    ensures rules { IfOk result IsName }
-    ensures again { (name : List ℕ) → IsName name → field.now.bytes ≡ field_message name → GivesBack (λ text. text) result name }
+// A column's name.
+fn name_of(alloc: Global, name: &str) -> Result<Text, ManifestFault>
+    ensures rules { IfOk result (λ text. (0 < length text) × IsTrue (is_utf8 text)) }
+    ensures again { 0 < length name.now → GivesBack (λ text. text) result name.now }
 {
-    let entry = read_entry(field.again())?;
-    let text = Text::of(alloc, entry.name)?;
-    let name = text.as_str();
-    if name.is_empty() || name.len() > MAX_NAME {
+    let text = Text::of(alloc, name)?;
+    if text.as_str().is_empty() {
         return Err(ManifestFault::Plain);
     }
     Ok(text)
 }
 
-fn one_column(alloc: Global, name: Text) -> Result<FieldList, AllocError>
-    ensures { IfOk result (λ fields. map plain_field fields ≡ first_field name ∷ []) }
+fn is_fixed(ty: &Ty) -> bool
+    requires { IsLeafType (plain_type ty.now) }
+    ensures { IsTrue result ↔ IsFixedType (plain_type ty.now) }
 {
-    let mut fields = FieldList::new(alloc);
-    fields.push(Field {
+    matches!(ty, Ty::Bits(_) | Ty::Vector(_, _))
+}
+
+// A column's type, of which each value has as many bits.
+fn type_of(logical: &str) -> Result<Ty, ManifestFault>
+    ensures rules { IfOk result (λ ty. IsFixedType (plain_type ty)) }
+    ensures again { (ty : PlainType ℕ) → IsFixedType ty → logical.now ≡ logical_of ty → GivesBack plain_type result ty }
+{
+    let Some(ty) = leaf_type(logical) else {
+        return Err(ManifestFault::Plain);
+    };
+    if !is_fixed(&ty) {
+        return Err(ManifestFault::Plain);
+    }
+    Ok(ty)
+}
+
+fn column_of(name: Text, ty: Ty) -> Field
+    ensures { plain_field result ≡ field 0 name false (plain_type ty) }
+{
+    Field {
         id: 0,
         name,
         nullable: false,
-        ty: Ty::Bits(Primitive::Int64),
-    })?;
+        ty,
+    }
+}
+
+// The column that the message of a field says.
+fn read_column(alloc: Global, message: &View<'_>) -> Result<Field, ManifestFault>
+    ensures rules { IfOk result (λ f. IsColumn (plain_field f)) }
+    ensures again { (f : PlainField ℕ) → IsColumn f → SaysField message.now (column_flat f) → GivesBack plain_field result f }
+{
+    let entry = read_entry(message.again())?;
+    let name = name_of(alloc, entry.name)?;
+    let ty = type_of(entry.logical)?;
+    Ok(column_of(name, ty))
+}
+
+fn one_column(alloc: Global, column: Field) -> Result<FieldList, AllocError>
+    ensures { IfOk result (λ fields. fields ≡ column ∷ []) }
+{
+    let mut fields = FieldList::new(alloc);
+    fields.push(column)?;
     Ok(fields)
 }
 
 /// The fields in the message of a manifest, which are one column.
 pub(crate) fn read_columns(alloc: Global, message: &View<'_>) -> Result<FieldList, ManifestFault>
     ensures rules { IfOk result (λ fields. IsOneColumn (map plain_field fields)) }
-    ensures again { (items : List Item) (field : Placed) (name : List ℕ) → Items message.now.base message.now.bytes items → part_in (first_of 1 items) ≡ Ok field → field.bytes ≡ field_message name → IsName name → GivesBack (map plain_field) result (first_field name ∷ []) }
+    ensures again { (items : List Item) (part : Placed) (f : PlainField ℕ) → Items message.now.base message.now.bytes items → part_in (first_of 1 items) ≡ Ok part → IsColumn f → SaysField part (column_flat f) → GivesBack (map plain_field) result (f ∷ []) }
 {
-    let field = part_in(message, 1)?;
-    let name = read_name(alloc, &field)?;
-    Ok(one_column(alloc, name)?)
+    let part = part_in(message, 1)?;
+    let column = read_column(alloc, &part)?;
+    Ok(one_column(alloc, column)?)
 }

@@ -1,5 +1,5 @@
 // Manifests from their objects.
-ghost use Rattle.std.specs.Prelude.{◌≡◌, ◌≢◌, ◌≤◌, ◌↔◌, ℕ, List, length, All, AllPairs, IfOk, IsOk, IsTrue, IsErrOf};
+ghost use Rattle.std.specs.Prelude.{◌≡◌, ◌≢◌, ◌^◌, ◌<◌, ◌≤◌, ◌↔◌, ℕ, List, length, All, AllPairs, IfOk, IsOk, IsTrue, IsErrOf};
 ghost use Rattle.lan_manifest.specs.Manifests.{PlainManifest, plain_manifest, manifest_text, framed};
 ghost use Rattle.lan_manifest.specs.Readable.{IsRead};
 ghost use Rattle.lan_manifest.specs.Reads.{IsManifest, ManifestOf};
@@ -54,7 +54,8 @@ impl From<WireFault> for ManifestFault {
 // The message in its frame, of which nothing else is looked at.
 #[tactic(auto, unfolding(crate::specs::Manifests::framed))]
 fn message_in<'a>(object: &View<'a>) -> Result<View<'a>, ManifestFault>
-    ensures { (message : List ℕ) → object.now.bytes ≡ framed message → IfOk result (λ part. part.bytes ≡ message) × IsOk result }
+    ensures short { IfOk result (λ part. length part.bytes < 2 ^ 63) }
+    ensures again { (message : List ℕ) → object.now.bytes ≡ framed message → IfOk result (λ part. part.bytes ≡ message) × IsOk result }
 {
     let size = object.len();
     if size < AROUND_MESSAGE {
@@ -69,7 +70,7 @@ fn message_in<'a>(object: &View<'a>) -> Result<View<'a>, ManifestFault>
 // The manifest in a message, before the rules on all its fragments.
 fn read_message(alloc: Global, message: &View<'_>, version: u64) -> Result<Manifest, ManifestFault>
     ensures rules { IfOk result (λ m. IsRead version (plain_manifest m)) }
-    ensures again { (m : PlainManifest) → m.version ≡ version → IsManifest m → IsOneColumn m.fields → All IsOneFile m.fragments → message.now.bytes ≡ manifest_text m → GivesBack plain_manifest result m }
+    ensures again { (m : PlainManifest) → m.version ≡ version → IsManifest m → IsOneColumn m.fields → All IsOneFile m.fragments → length message.now.bytes < 2 ^ 63 → message.now.bytes ≡ manifest_text m → GivesBack plain_manifest result m }
 {
     let fields = read_columns(alloc, message)?;
     let fragments = read_fragments(alloc, message)?;

@@ -17,15 +17,39 @@ const SECOND: &[u8; 93] =
 
 const PATH: &str = "00000000000000000001.lance";
 
-fn column(alloc: Global) -> Result<FieldList, AllocError> {
+fn column(alloc: Global, name: &str, ty: Ty) -> Result<FieldList, AllocError> {
     let mut fields = FieldList::new(alloc);
     fields.push(Field {
         id: 0,
-        name: Text::of(alloc, "x")?,
+        name: Text::of(alloc, name)?,
         nullable: false,
-        ty: Ty::Bits(Primitive::Int64),
+        ty,
     })?;
     Ok(fields)
+}
+
+// The object of version 1 of a column, without rows.
+fn first(alloc: Global, name: &str, ty: Ty) -> Result<Vec<u8>, AllocError> {
+    let manifest = Manifest {
+        fields: column(alloc, name, ty)?,
+        fragments: Fragments::new(alloc),
+        version: 1,
+        greatest: None,
+    };
+    write_manifest(alloc, &manifest)
+}
+
+// FIRST with another logical type.
+fn first_of_type(alloc: Global, logical: &str) -> Result<Vec<u8>, AllocError> {
+    let len = (logical.len() % 64) as u8;
+    let int64 = FIRST.as_slice();
+    let mut object = Vec::new(alloc);
+    object.extend_from_slice(&[22 + len, 0, 0, 0, 0x0a, 18 + len])?;
+    object.extend_from_slice(&int64[6..23])?;
+    object.push(len)?;
+    object.extend_from_slice(logical.as_bytes())?;
+    object.extend_from_slice(&int64[29..])?;
+    Ok(object)
 }
 
 fn files(alloc: Global, path: &str) -> Result<DataFiles, AllocError> {
@@ -50,7 +74,7 @@ fn object(alloc: Global, fragments: &[(u32, &str)], rows: u64) -> Result<Vec<u8>
         })?;
     }
     let manifest = Manifest {
-        fields: column(alloc)?,
+        fields: column(alloc, "x", Ty::Bits(Primitive::Int64))?,
         fragments: list,
         version: 2,
         greatest: Some(0),
@@ -58,27 +82,36 @@ fn object(alloc: Global, fragments: &[(u32, &str)], rows: u64) -> Result<Vec<u8>
     write_manifest(alloc, &manifest)
 }
 
-fn is_refused(alloc: Global, object: &[u8], version: u64) -> bool {
+fn read(alloc: Global, object: &[u8], version: u64) -> Result<Manifest, ManifestFault> {
     // Views lie below 2^63, as all memory does.
     if object.len() > 1 << 20 {
-        return false;
+        return Err(ManifestFault::Memory);
     }
-    matches!(
-        read_manifest(alloc, View::new(0, object), version),
-        Err(ManifestFault::Plain)
-    )
+    read_manifest(alloc, View::new(0, object), version)
+}
+
+fn is_refused(alloc: Global, object: &[u8], version: u64) -> bool {
+    matches!(read(alloc, object, version), Err(ManifestFault::Plain))
+}
+
+// The type of each column that is read, and how many items a vector has.
+fn types_in(alloc: Global, object: &[u8]) -> Result<Vec<(Primitive, Option<u32>)>, Fail> {
+    let read = read(alloc, object, 1).ok().ok_or("no manifest")?;
+    let mut types = Vec::new(alloc);
+    for field in read.fields.as_slice() {
+        match field.ty {
+            Ty::Bits(primitive) => types.push((primitive, None))?,
+            Ty::Vector(primitive, items) => types.push((primitive, Some(items)))?,
+            _ => {}
+        }
+    }
+    Ok(types)
 }
 
 #[test]
 fn the_first_version_is_written_and_read(rt: HostRuntime) -> Result<(), Fail> {
     let alloc = rt.alloc();
-    let manifest = Manifest {
-        fields: column(alloc)?,
-        fragments: Fragments::new(alloc),
-        version: 1,
-        greatest: None,
-    };
-    let object = write_manifest(alloc, &manifest)?;
+    let object = first(alloc, "x", Ty::Bits(Primitive::Int64))?;
     assert_eq!(rt; object.as_slice(), FIRST.as_slice());
     let read = read_manifest(alloc, View::new(0, FIRST.as_slice()), 1)
         .ok()
@@ -89,6 +122,78 @@ fn the_first_version_is_written_and_read(rt: HostRuntime) -> Result<(), Fail> {
     );
     assert_eq!(rt; read.greatest, None);
     assert!(rt; is_refused(alloc, FIRST.as_slice(), 2));
+    Ok(())
+}
+
+#[test]
+fn columns_of_any_fixed_width_are_written_and_read(rt: HostRuntime) -> Result<(), Fail> {
+    let alloc = rt.alloc();
+    let types = [
+        (Primitive::Bool, None, "bool"),
+        (Primitive::Half, None, "halffloat"),
+        (Primitive::Date, None, "date32:day"),
+        (Primitive::Float, Some(768), "fixed_size_list:float:768"),
+        (
+            Primitive::Date,
+            Some(65_536),
+            "fixed_size_list:date32:day:65536",
+        ),
+    ];
+    for (primitive, items, logical) in types {
+        let ty = match items {
+            None => Ty::Bits(primitive),
+            Some(items) => Ty::Vector(primitive, items),
+        };
+        let object = first(alloc, "x", ty)?;
+        let wanted = first_of_type(alloc, logical)?;
+        assert_eq!(rt; object.as_slice(), wanted.as_slice(), "at {logical}");
+        let read = types_in(alloc, object.as_slice())?;
+        assert_eq!(rt;
+            read.as_slice(),
+            [(primitive, items)].as_slice(),
+            "at {logical}"
+        );
+    }
+    Ok(())
+}
+
+#[test]
+fn another_type_is_refused(rt: HostRuntime) -> Result<(), Fail> {
+    let alloc = rt.alloc();
+    let types = [
+        "",
+        "string",
+        "binary",
+        "list",
+        "struct",
+        "int63",
+        "fixed_size_list:bool:8",
+        "fixed_size_list:float:0",
+        "fixed_size_list:float:65537",
+        "fixed_size_list:float:03",
+    ];
+    for logical in types {
+        let object = first_of_type(alloc, logical)?;
+        assert!(rt; is_refused(alloc, object.as_slice(), 1), "of {logical}");
+    }
+    Ok(())
+}
+
+#[test]
+fn a_long_name_is_written_and_read(rt: HostRuntime) -> Result<(), Fail> {
+    let alloc = rt.alloc();
+    let mut name = String::new(alloc);
+    for _ in 0..70_000 {
+        name.push('x')?;
+    }
+    let object = first(alloc, name.as_str(), Ty::Bits(Primitive::Int64))?;
+    assert_eq!(rt; object.len(), 70_050);
+    let read = read(alloc, object.as_slice(), 1).ok().ok_or("no manifest")?;
+    for field in read.fields.as_slice() {
+        assert_eq!(rt; field.name.as_str(), name.as_str());
+    }
+    let nameless = first(alloc, "", Ty::Bits(Primitive::Int64))?;
+    assert!(rt; is_refused(alloc, nameless.as_slice(), 1));
     Ok(())
 }
 

@@ -15,7 +15,7 @@ use Rattle.lan_store.specs.declared.name.Name.{Name}
 use Rattle.lan_store.specs.Objects.{object}
 use Rattle.lan_file.specs.Files.{HoldsRows}
 use Rattle.lan_file.specs.Reasons.{GivesRows, Stands as StandsInBytes}
-use Rattle.lan_file.specs.Stage.{IsRequiredInt64}
+use Rattle.lan_file.specs.Stage.{IsRequiredFixed}
 use Rattle.lan_file.specs.declared.fault.FileReason.{FileReason}
 use Rattle.lan_manifest.specs.Stage.{IsOneColumn, IsOneFile}
 use Rattle.lan_manifest.specs.declared.manifest.DataFile.{DataFile}
@@ -26,13 +26,13 @@ use Rattle.lan_read.specs.Standing.{FileGives, FragmentRows, data_name}
 use Rattle.lan_read.proofs.OneTable.{one_column}
 
 -- the one column of the fields
-pub field_is : (fields : List Field) (f : Field) → IsOneColumn (map plain_field fields) → slice_get fields 0 ≡ Some f → (map plain_field fields ≡ plain_field f ∷ []) × IsRequiredInt64 (plain_field f)
+pub field_is : (fields : List Field) (f : Field) → IsOneColumn (map plain_field fields) → slice_get fields 0 ≡ Some f → (map plain_field fields ≡ plain_field f ∷ []) × IsRequiredFixed (plain_field f)
 field_is [] f is at = absurd is
 field_is (g ∷ []) f is at =
     let column = one_column (plain_field g ∷ []) is in
     let same : plain_field g ≡ column.0 = ap (λ l. get_or l 0 column.0) column.1 in
     let here : g ≡ f = same_Some g f at in
-    (ap (λ x. plain_field x ∷ []) here, subst IsRequiredInt64 (sym same ∙ ap plain_field here) column.2)
+    (ap (λ x. plain_field x ∷ []) here, subst IsRequiredFixed (sym same ∙ ap plain_field here) column.2)
 field_is (g ∷ h ∷ gs) f is at = absurd (omega (arith, ap length (one_column (plain_field g ∷ plain_field h ∷ map plain_field gs) is).1))
 
 pub some_field : (fields : List Field) → IsOneColumn (map plain_field fields) → 0 < length fields

@@ -1,18 +1,19 @@
 -- The objects stand for one table at a version, and where a reason stands for none.
-use Rattle.std.proofs.Common.{◌≡◌, sym, ◌∙◌, ap, subst, ℕ, zero, suc, ◌<◌, List, [], ◌∷◌, ◌++◌, length, get_or, map, arith, append_assoc}
+use Rattle.std.proofs.Common.{◌≡◌, sym, ◌∙◌, ap, subst, ℕ, zero, suc, ◌<◌, true, false, List, [], ◌∷◌, ◌++◌, length, get_or, map, arith, append_assoc}
 use Rattle.std.specs.Prelude.{Option, Some, None, IsNone, All, Contains, pos}
 use Rattle.std.proofs.lemmas.Option.{same_Some}
 use Rattle.lan_model.specs.After.{without}
-use Rattle.lan_model.specs.Plain.{PlainField, PlainValue, unnumbered}
+use Rattle.lan_model.specs.Plain.{PlainField, field, PlainValue, unnumbered}
 use Rattle.lan_model.specs.Table.{Table, FitsRow}
 use Rattle.lan_store.specs.declared.name.Object.{Object}
 use Rattle.lan_store.specs.declared.name.Name.{Name}
 use Rattle.lan_store.specs.Objects.{object}
 use Rattle.lan_file.specs.Files.{HoldsRows}
-use Rattle.lan_file.specs.Stage.{IsRequiredInt64}
+use Rattle.lan_file.specs.Stage.{IsRequiredFixed}
 use Rattle.lan_file.specs.Reasons.{Stands as StandsInBytes}
 use Rattle.lan_file.specs.declared.fault.FileReason.{FileReason}
 use Rattle.lan_file.proofs.Unique.{one_list, no_reason}
+use Rattle.lan_manifest.specs.Columns.{IsColumn}
 use Rattle.lan_manifest.specs.Manifests.{PlainManifest}
 use Rattle.lan_manifest.specs.Reads.{ManifestOf, ManifestAt}
 use Rattle.lan_manifest.specs.Stage.{IsOneColumn, IsOneFile}
@@ -34,9 +35,13 @@ of_one P xs x (k, below, is) each = subst P is (each k x below)
 others : {X : Type 0} (P : X → Type 0) (x : X) (xs : List X) → All P (x ∷ xs) → All P xs
 others P x xs each k d below = each (suc k) d (omega (arith, below))
 
+required : (f : PlainField ℕ) → IsColumn f → IsRequiredFixed f
+required (field id name false ty) is = is.3
+required (field id name true ty) is = absurd is
+
 -- the one column of a manifest that is read
-pub one_column : (fields : List (PlainField ℕ)) → IsOneColumn fields → (f : PlainField ℕ) × (fields ≡ f ∷ []) × IsRequiredInt64 f
-one_column fields is = let found = column_in fields is in (_, found.1.0, tt)
+pub one_column : (fields : List (PlainField ℕ)) → IsOneColumn fields → (f : PlainField ℕ) × (fields ≡ f ∷ []) × IsRequiredFixed f
+one_column fields is = let found = column_in fields is in (found.0, found.1.0, required found.0 found.1.1)
 
 only_file : (P : DataFile → Type 0) (fragment : Fragment) (is : IsOneFile fragment) → All P fragment.files → P (record { path = is.path; ids = pos 0 ∷ []; columns = pos 0 ∷ [] })
 only_file P fragment is each = (subst (All P) is.one each) 0 (record { path = is.path; ids = pos 0 ∷ []; columns = pos 0 ∷ [] }) (omega arith)
@@ -46,11 +51,11 @@ none_deleted objects None physical deleted none is = is
 none_deleted objects (Some d) physical deleted none is = absurd is
 
 -- a data file gives one list of rows
-file_one : (objects : List Object) (f : PlainField ℕ) (file : DataFile) (xs ys : List (List PlainValue)) → IsRequiredInt64 f → All (FitsRow (f ∷ [])) xs → All (FitsRow (f ∷ [])) ys → FileGives objects (f ∷ []) file xs → FileGives objects (f ∷ []) file ys → xs ≡ ys
+file_one : (objects : List Object) (f : PlainField ℕ) (file : DataFile) (xs ys : List (List PlainValue)) → IsRequiredFixed f → All (FitsRow (f ∷ [])) xs → All (FitsRow (f ∷ [])) ys → FileGives objects (f ∷ []) file xs → FileGives objects (f ∷ []) file ys → xs ≡ ys
 file_one objects f file xs ys is xs_fit ys_fit a b =
     one_list f a.bytes xs ys is xs_fit ys_fit a.holds (subst (λ l. HoldsRows (f ∷ []) l ys) (same_Some b.bytes a.bytes (sym b.held ∙ a.held)) b.holds)
 
-fragment_one : (objects : List Object) (f : PlainField ℕ) (fragment : Fragment) (xs ys : List (List PlainValue)) → IsRequiredInt64 f → IsOneFile fragment → FragmentRows objects (f ∷ []) fragment xs → FragmentRows objects (f ∷ []) fragment ys → xs ≡ ys
+fragment_one : (objects : List Object) (f : PlainField ℕ) (fragment : Fragment) (xs ys : List (List PlainValue)) → IsRequiredFixed f → IsOneFile fragment → FragmentRows objects (f ∷ []) fragment xs → FragmentRows objects (f ∷ []) fragment ys → xs ≡ ys
 fragment_one objects f fragment xs ys is one a b =
     let rows : a.physical ≡ b.physical = file_one objects f (record { path = one.path; ids = pos 0 ∷ []; columns = pos 0 ∷ [] }) a.physical b.physical is a.fit b.fit (only_file (λ file. FileGives objects (f ∷ []) file a.physical) fragment one a.files) (only_file (λ file. FileGives objects (f ∷ []) file b.physical) fragment one b.files) in
     let deleted : a.deleted ≡ b.deleted =
@@ -59,7 +64,7 @@ fragment_one objects f fragment xs ys is one a b =
     a.left ∙ ap (λ l. without l 0 a.physical) deleted ∙ ap (λ l. without b.deleted 0 l) rows ∙ sym b.left
 
 -- fragments give one list of rows
-pub rows_one : (objects : List Object) (f : PlainField ℕ) (fs : List Fragment) (xs ys : List (List PlainValue)) → IsRequiredInt64 f → All IsOneFile fs → RowsOf objects (f ∷ []) fs xs → RowsOf objects (f ∷ []) fs ys → xs ≡ ys
+pub rows_one : (objects : List Object) (f : PlainField ℕ) (fs : List Fragment) (xs ys : List (List PlainValue)) → IsRequiredFixed f → All IsOneFile fs → RowsOf objects (f ∷ []) fs xs → RowsOf objects (f ∷ []) fs ys → xs ≡ ys
 rows_one objects f [] xs ys is one a b = a ∙ sym b
 rows_one objects f (g ∷ gs) xs ys is one (mine, later, first, rest, a) (other_mine, other_later, other_first, other_rest, b) =
     let here = fragment_one objects f g mine other_mine is (one 0 g (omega arith)) first other_first in
@@ -67,7 +72,7 @@ rows_one objects f (g ∷ gs) xs ys is one (mine, later, first, rest, a) (other_
     a ∙ ap (λ l. l ++ later) here ∙ ap (λ l. other_mine ++ l) behind ∙ sym b
 
 -- the rows of the first fragments are the first rows
-pub rows_front : (objects : List Object) (f : PlainField ℕ) (fs gs : List Fragment) (xs ys : List (List PlainValue)) → IsRequiredInt64 f → All IsOneFile fs → RowsOf objects (f ∷ []) fs xs → RowsOf objects (f ∷ []) (fs ++ gs) ys
+pub rows_front : (objects : List Object) (f : PlainField ℕ) (fs gs : List Fragment) (xs ys : List (List PlainValue)) → IsRequiredFixed f → All IsOneFile fs → RowsOf objects (f ∷ []) fs xs → RowsOf objects (f ∷ []) (fs ++ gs) ys
     → (later : List (List PlainValue)) × (ys ≡ xs ++ later)
 rows_front objects f [] gs xs ys is one a b = (ys, sym (ap (λ l. l ++ ys) a))
 rows_front objects f (g ∷ fs) gs xs ys is one (mine, later, first, rest, a) (other_mine, other_later, other_first, other_rest, b) =

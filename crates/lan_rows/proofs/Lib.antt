@@ -1,3 +1,10 @@
-pub mod Fitting
+pub mod LineValue
+pub mod ReadingLemmas
+pub mod PrintingLemmas
+pub mod BitsTell
+pub mod LineTells
 pub mod LineLaws
-pub mod Views
+pub mod RowsLemmas
+pub mod Unnumbered
+pub mod BitsStand
+pub mod RowStands

@@ -1,11 +1,12 @@
 -- Where the first line of a text ends.
 use Rattle.std.proofs.Common.{◌≡◌, inl, inr, refl, sym, ◌∙◌, ap, ℕ, zero, suc, ◌+◌, ◌<◌, ◌≤◌, List, [], ◌∷◌, ◌++◌, length, take, drop, arith, append_assoc, append-nil, true, false}
-use Rattle.std.specs.Prelude.{◌==◌, nat_eq, slice_index, Some, Result, Ok, Err}
+use Rattle.std.specs.Prelude.{◌==◌, nat_eq, slice_index, Result, Ok, Err}
 use Rattle.std.proofs.lemmas.Bool.{cases_Bool}
 use Rattle.std.proofs.lemmas.Bool.Decides.{nat_tests}
 use Rattle.std.proofs.lemmas.List.{take_all}
 use Rattle.lan_model.specs.Plain.{PlainValue}
-use Rattle.lan_rows.specs.Lines.{cut, and_row, behind}
+use Rattle.lan_rows.specs.Lines.{cut, and_rows, behind}
+use Rattle.lan_rows.specs.declared.lines.LinesFault.{LinesFault}
 
 -- no byte of the line is a newline
 abbrev pub NoNewline : List ℕ → Type 0
@@ -74,6 +75,6 @@ pub behind_none : (rows : List (List PlainValue)) → behind rows (Ok []) ≡ Ok
 behind_none rows = ap (λ l. Ok l) (append-nil rows)
 
 -- a row more in front
-pub behind_row : (rows : List (List PlainValue)) (row : List PlainValue) (line : ℕ) (later : Result (List (List PlainValue)) ℕ) → behind rows (and_row line (Some row) later) ≡ behind (rows ++ row ∷ []) later
-behind_row rows row line (Ok more) = ap (λ l. Ok l) (sym (append_assoc rows (row ∷ []) more))
-behind_row rows row line (Err bad) = refl
+pub behind_row : (rows : List (List PlainValue)) (row : List PlainValue) (later : Result (List (List PlainValue)) LinesFault) → behind rows (and_rows (Ok row) later) ≡ behind (rows ++ row ∷ []) later
+behind_row rows row (Ok more) = ap (λ l. Ok l) (sym (append_assoc rows (row ∷ []) more))
+behind_row rows row (Err bad) = refl

@@ -1,3 +1,9 @@
+pub mod Judged
+pub mod Bits
+pub mod Values
+pub mod Fitting
+pub mod Line
+pub mod RowOf
+pub mod Laws
 pub mod Lines
-pub mod Members
-pub mod Rows
+pub mod Why

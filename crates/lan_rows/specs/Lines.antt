@@ -1,12 +1,10 @@
 -- The lines of an input, and the rows that they are.
-use Rattle.std.specs.Prelude.{◌≡◌, ℕ, ◌+◌, ⊤, map, List, [], ◌∷◌, ◌++◌, cond, nat_eq, Option, Some, None, Result, Ok, Err}
-use Rattle.lan_model.specs.Plain.{PlainValue}
-use Rattle.lan_model.specs.Table.{Column}
-use Rattle.lan_model.specs.declared.tree.Val.{Val}
-use Rattle.lan_model.specs.PlainTable.{row_of as plain_row}
-use Rattle.lan_rows.specs.Rows.{row_of}
+use Rattle.std.specs.Prelude.{ℕ, ◌+◌, ◌^◌, nat_le, nat_eq, length, List, [], ◌∷◌, ◌++◌, cond, Result, Ok, Err}
+use Rattle.lan_model.specs.Plain.{PlainField, PlainValue}
+use Rattle.lan_rows.specs.Judged.{Judged}
+use Rattle.lan_rows.specs.Values.{line_row}
 use Rattle.lan_rows.specs.declared.lines.LinesFault.{LinesFault}
-use Rattle.lan_rows.specs.declared.lines.LinesFault.TheVariants.{Bad, Memory}
+use Rattle.lan_rows.specs.declared.lines.LinesFault.TheVariants.{Bad, LineTooLong}
 
 -- the lines that a text is cut into at each newline, numbered from here, where `line` was read of the first
 unfoldable pub cut : ℕ → List ℕ → List ℕ → List (ℕ × List ℕ)
@@ -14,23 +12,29 @@ cut number [] [] = []
 cut number (b ∷ line) [] = (number, b ∷ line) ∷ []
 cut number line (b ∷ rest) = cond (nat_eq b 10) ((number, line) ∷ cut (number + 1) [] rest) (cut number (line ++ b ∷ []) rest)
 
-abbrev pub and_row : ℕ → Option (List PlainValue) → Result (List (List PlainValue)) ℕ → Result (List (List PlainValue)) ℕ
-and_row line None rows = Err line
-and_row line (Some row) (Err later) = Err later
-and_row line (Some row) (Ok rows) = Ok (row ∷ rows)
+-- the same of the whole text, from line 1
+abbrev pub lines_of : List ℕ → List (ℕ × List ℕ)
+lines_of text = cut 1 [] text
 
--- the rows of numbered lines, or the number of the first line that is none
-abbrev pub rows_of : List Column → List (ℕ × List ℕ) → Result (List (List PlainValue)) ℕ
-rows_of columns [] = Ok []
-rows_of columns (line ∷ lines) = and_row line.0 (row_of columns line.1) (rows_of columns lines)
+abbrev pub numbered : ℕ → Judged (List PlainValue) → Result (List PlainValue) LinesFault
+numbered number (Ok row) = Ok row
+numbered number (Err fault) = Err (Bad number fault)
+
+-- the row of a numbered line, of at most 2^26 bytes
+abbrev pub row_at : {I : Type 0} → List (PlainField I) → ℕ × List ℕ → Result (List PlainValue) LinesFault
+row_at fields line = cond (nat_le (length line.1) (2 ^ 26)) (numbered line.0 (line_row fields line.1)) (Err (LineTooLong line.0))
+
+abbrev pub and_rows : Result (List PlainValue) LinesFault → Result (List (List PlainValue)) LinesFault → Result (List (List PlainValue)) LinesFault
+and_rows (Err fault) rows = Err fault
+and_rows (Ok row) (Err fault) = Err fault
+and_rows (Ok row) (Ok rows) = Ok (row ∷ rows)
+
+-- the rows of numbered lines, or the fault of the first that is none
+abbrev pub rows_of : {I : Type 0} → List (PlainField I) → List (ℕ × List ℕ) → Result (List (List PlainValue)) LinesFault
+rows_of fields [] = Ok []
+rows_of fields (line ∷ lines) = and_rows (row_at fields line) (rows_of fields lines)
 
 -- these rows, and behind them those of the rest
-abbrev pub behind : List (List PlainValue) → Result (List (List PlainValue)) ℕ → Result (List (List PlainValue)) ℕ
+abbrev pub behind : List (List PlainValue) → Result (List (List PlainValue)) LinesFault → Result (List (List PlainValue)) LinesFault
 behind rows (Ok later) = Ok (rows ++ later)
-behind rows (Err line) = Err line
-
--- an answer that is this list, or this line, or want of memory
-abbrev pub LinesAre : Result (List (List PlainValue)) ℕ → Result (List (List Val)) LinesFault → Type 0
-LinesAre wanted (Ok rows) = wanted ≡ Ok (map plain_row rows)
-LinesAre wanted (Err (Bad line)) = wanted ≡ Err line
-LinesAre wanted (Err Memory) = ⊤
+behind rows (Err fault) = Err fault

@@ -1,12 +1,19 @@
-//! Rows as lines of JSON: read exactly, and printed.
+//! Rows of every type as lines of JSON: read exactly, and printed.
 #![tactic(auto)]
 
+mod bits;
+mod faults;
+pub mod laws;
 mod lines;
 mod printing;
 mod reading;
 #[cfg(test)]
 mod tests;
+mod values;
+mod words;
 
-pub use lines::{LinesFault, read_rows};
-pub use printing::RowPrinter;
-pub use reading::{MAX_LINE, RowFault, read_row};
+pub use faults::RowFault;
+pub use lines::{LinesFault, MAX_LINE, read_rows};
+pub use printing::{RowPrinter, print_row};
+pub use reading::read_row;
+pub use words::{why, why_line};

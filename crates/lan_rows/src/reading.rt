@@ -1,119 +1,72 @@
 // The row that a line is.
-ghost use Rattle.std.specs.Prelude.{◌≡◌, ◌↔◌, ◌≤◌, ◌^◌, length, map, Some, None, IfOk, IsErrOf, option_map};
-ghost use Rattle.serde_json.specs.View.{view};
-ghost use Rattle.lan_model.specs.Plain.{plain_field, plain_value};
+ghost use Rattle.std.specs.Prelude.{◌≡◌, ◌⊎◌, Ok, Err, Some, None, IfOk, IfErr, map};
+ghost use Rattle.serde_json.specs.Data.{object};
+ghost use Rattle.serde_json.specs.View.{view, members_view};
+ghost use Rattle.lan_model.specs.Plain.{plain_field, plain_fields, plain_value, plain_values};
+ghost use Rattle.lan_model.specs.Fits.{EachFits};
 ghost use Rattle.lan_model.specs.PlainTable.{column_of};
 ghost use Rattle.lan_model.specs.Table.{FitsRow};
-ghost use Rattle.lan_rows.specs.Members.{members_in};
-ghost use Rattle.lan_rows.specs.Rows.{IsBits, value_of, int64_in, int64_of_line, read_column, row_of_int64, row_of};
+ghost use Rattle.lan_rows.specs.Values.{value_of, row_values, line_row, badness};
+ghost use Rattle.lan_rows.specs.declared.faults.RowFault.TheVariants.{Memory, Json};
 
-use lan_model::{FieldList, List, Primitive, Row, Ty, Val};
-use serde_json::Value;
-use std::alloc::{AllocError, Global};
+use crate::faults::RowFault;
+use crate::values::{read_member, stray_key};
+use lan_model::{Field, FieldList, List, Row, Text};
+use serde_json::{Map, Value};
+use std::alloc::Global;
 
-/// Why a line is no row.
-#[derive(Clone, Copy, Debug, PartialEq, Eq)]
-pub enum RowFault {
-    /// It isn't a row of the fields, or has over 2^26 bytes.
-    Bad,
-    Memory,
-}
-
-/// How many bytes a line has at most.
-pub const MAX_LINE: usize = 1 << 26;
-
-/// The row that a line is, without its newline.
-///
-/// Rows are read of one column of int64 that is never null: an object of that one key, with a whole
-/// number that 64 bits with a sign hold.
-#[tactic(auto, unfolding(crate::specs::Rows::row_of))]
+/// The row that a line is, without its newline, or its first fault.
 pub fn read_row(alloc: Global, fields: &FieldList, line: &[u8]) -> Result<Row, RowFault>
-    ensures ok { IfOk result (λ row. row_of (map column_of fields.now) line.now ≡ Some (map plain_value row)) }
+    ensures ok { IfOk result (λ row. line_row (map column_of fields.now) line.now ≡ Ok (map plain_value row)) }
     ensures fit { IfOk result (λ row. FitsRow (map plain_field fields.now) (map plain_value row)) }
-    ensures bad { IsErrOf result RowFault.Bad → row_of (map column_of fields.now) line.now ≡ None }
+    ensures err { IfErr result (λ e. (e ≡ RowFault.Memory) ⊎ (badness (map column_of fields.now) line.now ≡ Some e)) }
 {
-    let Some(name) = read_column(fields) else {
-        return Err(RowFault::Bad);
+    read_fields(alloc, fields.as_slice(), line)
+}
+
+#[tactic(auto, unfolding(crate::specs::Values::line_row))]
+fn read_fields(alloc: Global, fields: &[Field], line: &[u8]) -> Result<Row, RowFault>
+    ensures ok { IfOk result (λ row. line_row (map plain_field fields.now) line.now ≡ Ok (map plain_value row)) }
+    ensures fit { IfOk result (λ row. FitsRow (map plain_field fields.now) (map plain_value row)) }
+    ensures err { IfErr result (λ e. (e ≡ RowFault.Memory) ⊎ (line_row (map plain_field fields.now) line.now ≡ Err e)) }
+{
+    let value = value_of(alloc, line)?;
+    let Some(members) = value.as_object() else {
+        return Err(RowFault::NotObject);
     };
-    match int64_of_line(alloc, name, line) {
-        Ok(Some(number)) => one_number(alloc, number),
-        Ok(None) => Err(RowFault::Bad),
-        Err(_) => Err(RowFault::Memory),
+    let row = read_columns(alloc, fields, &value, members)?;
+    match stray_key(fields, members) {
+        Some(key) => Err(RowFault::StrayKey(Text::of(alloc, key)?)),
+        None => Ok(row),
     }
 }
 
-// The name of the one column that rows are read of.
-pub fn read_column(fields: &FieldList) -> Option<&str>
-    ensures { option_map (λ name. name.now) result ≡ read_column (map column_of fields.now) }
-{
-    let fields = fields.as_slice();
-    if fields.len() != 1 {
-        return None;
-    }
-    let field = &fields[0];
-    match &field.ty {
-        Ty::Bits(Primitive::Int64) if !field.nullable => Some(field.name.as_str()),
-        _ => None,
-    }
-}
-
-fn one_number(alloc: Global, number: i64) -> Result<Row, RowFault>
-    ensures ok { IfOk result (λ row. map plain_value row ≡ row_of_int64 number) }
-    ensures bits { IfOk result (λ row. IsBits (map plain_value row)) }
-    ensures err { IsErrOf result RowFault.Bad → ⊥ }
-{
-    match row_of(alloc, number) {
-        Ok(row) => Ok(row),
-        Err(_) => Err(RowFault::Memory),
-    }
-}
-
-fn row_of(alloc: Global, number: i64) -> Result<Row, AllocError>
-    ensures ok { IfOk result (λ row. map plain_value row ≡ row_of_int64 number) }
-    ensures bits { IfOk result (λ row. IsBits (map plain_value row)) }
-{
-    let mut row = List::with_capacity(alloc, 1)?;
-    row.push(Val::Bits(number.cast_unsigned()))?;
-    Ok(row)
-}
-
-#[tactic(auto, unfolding(crate::specs::Rows::int64_of_line))]
-fn int64_of_line(alloc: Global, name: &str, line: &[u8]) -> Result<Option<i64>, AllocError>
-    ensures { IfOk result (λ number. number ≡ int64_of_line name.now line.now) }
-{
-    if line.len() > MAX_LINE {
-        return Ok(None);
-    }
-    match value_of(alloc, line)? {
-        Some(value) => Ok(int64_in(name, &value)),
-        None => Ok(None),
-    }
-}
-
-fn value_of(alloc: Global, line: &[u8]) -> Result<Option<Value>, AllocError>
-    ensures { IfOk result (λ value. option_map view value ≡ value_of line.now) }
+fn value_of(alloc: Global, line: &[u8]) -> Result<Value, RowFault>
+    ensures ok { IfOk result (λ value. value_of line.now ≡ Some (view value)) }
+    ensures err { IfErr result (λ e. (e ≡ RowFault.Memory) ⊎ ((e ≡ RowFault.Json) × (value_of line.now ≡ None))) }
 {
     match Value::from_slice(alloc, line) {
-        Ok(value) => Ok(Some(value)),
-        Err(error) if error.is_memory() => Err(AllocError),
-        Err(_) => Ok(None),
+        Ok(value) => Ok(value),
+        Err(error) if error.is_memory() => Err(RowFault::Memory),
+        Err(_) => Err(RowFault::Json),
     }
 }
 
-fn int64_in(name: &str, value: &Value) -> Option<i64>
-    ensures { result ≡ int64_in name.now (view value.now) }
+// A value of each field; a fault names the field that it is in.
+fn read_columns(
+    alloc: Global,
+    fields: &[Field],
+    value: &Value,
+    members: &Map<String, Value>,
+) -> Result<Row, RowFault>
+    requires { view value.now ≡ object (members_view members.now.entries) }
+    ensures ok { IfOk result (λ row. row_values (plain_fields fields.now) (members_view members.now.entries) ≡ Ok (map plain_value row)) }
+    ensures fit { IfOk result (λ row. EachFits (plain_fields fields.now) (plain_values row)) }
+    ensures err { IfErr result (λ e. (e ≡ RowFault.Memory) ⊎ (row_values (plain_fields fields.now) (members_view members.now.entries) ≡ Err e)) }
 {
-    if members_in(value) != 1 {
-        return None;
+    let mut row = List::with_capacity(alloc, fields.len())?;
+    for field in fields {
+        row.push(read_member(alloc, field.name.as_str(), field, value, members)?)?;
     }
-    value.get(name)?.as_i64()
-}
-
-fn members_in(value: &Value) -> usize
-    ensures { result ≡ members_in (view value.now) }
-{
-    match value.as_object() {
-        Some(members) => members.len(),
-        None => 0,
-    }
+    Ok(row)
 }

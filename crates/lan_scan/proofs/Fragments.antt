@@ -9,7 +9,6 @@ use Rattle.lan_store.specs.declared.name.Object.{Object}
 use Rattle.lan_manifest.specs.Manifests.{PlainManifest}
 use Rattle.lan_manifest.specs.Stage.{IsOneColumn, IsOneFile}
 use Rattle.lan_manifest.specs.declared.manifest.Fragment.{Fragment}
-use Rattle.lan_rows.specs.Rows.{line_behind}
 use Rattle.lan_read.specs.Standing.{FragmentRows, RowsOf}
 use Rattle.lan_read.proofs.OneTable.{one_column, rows_one}
 use Rattle.lan_scan.specs.Printing.{Stops, SendsRows, SendsFragment, PrintsFragment, PrintsAll}
@@ -45,16 +44,16 @@ rows_split objects fields (f ∷ fs) gs rows (mine, later, has, rest, is) =
     (mine ++ split.0, split.1, (mine, split.0, has, split.2, refl), split.3, is ∙ ap (λ l. mine ++ l) split.4 ∙ sym (append_assoc mine split.0 split.1))
 
 -- the lines of one fragment more were passed on
-pub fragment_passed : (objects : List Object) (fields : List (PlainField ℕ)) (fs : List Fragment) (i : ℕ) (f : Fragment) (front : Option (List ℕ)) (waiting middle rest : List ℕ) (held mid holds : Option (List ℕ)) → i < length fs → f ≡ get_or fs i f
-    → SendsRows objects fields (take i fs) front waiting held mid middle → SendsFragment objects fields f front middle mid holds rest → SendsRows objects fields (take (i + 1) fs) front waiting held holds rest
-fragment_passed objects fields fs i f front waiting middle rest held mid holds below is before here = record {
+pub fragment_passed : (objects : List Object) (fields : List (PlainField ℕ)) (fs : List Fragment) (i : ℕ) (f : Fragment) (line : List PlainValue → List ℕ) (waiting middle rest : List ℕ) (held mid holds : Option (List ℕ)) → i < length fs → f ≡ get_or fs i f
+    → SendsRows objects fields (take i fs) line waiting held mid middle → SendsFragment objects fields f line middle mid holds rest → SendsRows objects fields (take (i + 1) fs) line waiting held holds rest
+fragment_passed objects fields fs i f line waiting middle rest held mid holds below is before here = record {
   rows = before.rows ++ here.rows;
   of_fragments =
       subst (λ l. RowsOf objects fields l (before.rows ++ here.rows)) (ap (λ x. take i fs ++ x ∷ []) is ∙ sym (take_more fs i f below))
       (rows_then objects fields (take i fs) f before.rows here.rows before.of_fragments here.of_fragment);
   sends =
-      subst (λ l. Sends l waiting held holds rest) (sym (flat_map-append (line_behind front) before.rows here.rows))
-      (sends_then (flat_map (line_behind front) before.rows) (flat_map (line_behind front) here.rows) waiting middle rest held mid holds before.sends here.sends);
+      subst (λ l. Sends l waiting held holds rest) (sym (flat_map-append line before.rows here.rows))
+      (sends_then (flat_map line before.rows) (flat_map line here.rows) waiting middle rest held mid holds before.sends here.sends);
 }
 
 -- the lines of rows in three parts
@@ -63,11 +62,10 @@ lines_split line rows before mine later is =
     ap (flat_map line) is ∙ flat_map-append line before (mine ++ later) ∙ ap (λ l. flat_map line before ++ l) (flat_map-append line mine later) ∙ sym (append_assoc (flat_map line before) (flat_map line mine) (flat_map line later))
 
 -- the lines stopped in this fragment
-fragments_stop : (objects : List Object) (fields : List (PlainField ℕ)) (fs : List Fragment) (i : ℕ) (f : Fragment) (front : Option (List ℕ)) (waiting middle : List ℕ) (held mid holds : Option (List ℕ)) → IsOneColumn fields → All IsOneFile fs → i < length fs → f ≡ get_or fs i f
-    → SendsRows objects fields (take i fs) front waiting held mid middle → ((rows : List (List PlainValue)) → FragmentRows objects fields f rows → Stops front rows middle mid holds)
-    → (rows : List (List PlainValue)) → RowsOf objects fields fs rows → Stops front rows waiting held holds
-fragments_stop objects fields fs i f front waiting middle held mid holds columns files below is before stops rows has =
-    let line = line_behind front in
+fragments_stop : (objects : List Object) (fields : List (PlainField ℕ)) (fs : List Fragment) (i : ℕ) (f : Fragment) (line : List PlainValue → List ℕ) (waiting middle : List ℕ) (held mid holds : Option (List ℕ)) → IsOneColumn fields → All IsOneFile fs → i < length fs → f ≡ get_or fs i f
+    → SendsRows objects fields (take i fs) line waiting held mid middle → ((rows : List (List PlainValue)) → FragmentRows objects fields f rows → Stops line rows middle mid holds)
+    → (rows : List (List PlainValue)) → RowsOf objects fields fs rows → Stops line rows waiting held holds
+fragments_stop objects fields fs i f line waiting middle held mid holds columns files below is before stops rows has =
     let split = rows_split objects fields (take i fs) (drop i fs) rows (subst (λ l. RowsOf objects fields l rows) (sym (take-append-drop i fs)) has) in
     let (mine, later, mine_has, rest, behind_is) = subst (λ l. RowsOf objects fields l split.1) (drop-cons fs i f below) split.3 in
     let same : split.0 ≡ before.rows = one_rows objects fields (take i fs) split.0 before.rows columns (All-take IsOneFile i fs files) split.2 before.of_fragments in
@@ -80,18 +78,18 @@ fragments_stop objects fields fs i f front waiting middle held mid holds columns
     )
 
 -- why this fragment's lines stopped is why all stopped
-pub prints_no_more : (objects : List Object) (m : PlainManifest) (i : ℕ) (f : Fragment) (front : Option (List ℕ)) (waiting middle waits : List ℕ) (held mid holds : Option (List ℕ)) (fault : ScanFault) → IsOneColumn m.fields → All IsOneFile m.fragments → i < length m.fragments → f ≡ get_or m.fragments i f
-    → SendsRows objects m.fields (take i m.fragments) front waiting held mid middle → PrintsFragment objects m.fields f front middle waits mid holds (Err fault) → PrintsAll objects m front waiting waits held holds (Err fault)
-prints_no_more objects m i f front waiting middle waits held mid holds (Outside name why place) columns files below is before stops = record { fragment = f; has_fragment = (i, below, sym is); stands = stops }
-prints_no_more objects m i f front waiting middle waits held mid holds (Store name) columns files below is before stops = fragments_stop objects m.fields m.fragments i f front waiting middle held mid holds columns files below is before stops
-prints_no_more objects m i f front waiting middle waits held mid holds Write columns files below is before stops = fragments_stop objects m.fields m.fragments i f front waiting middle held mid holds columns files below is before stops
-prints_no_more objects m i f front waiting middle waits held mid holds Memory columns files below is before stops = fragments_stop objects m.fields m.fragments i f front waiting middle held mid holds columns files below is before stops
+pub prints_no_more : (objects : List Object) (m : PlainManifest) (i : ℕ) (f : Fragment) (line : List PlainValue → List ℕ) (waiting middle waits : List ℕ) (held mid holds : Option (List ℕ)) (fault : ScanFault) → IsOneColumn m.fields → All IsOneFile m.fragments → i < length m.fragments → f ≡ get_or m.fragments i f
+    → SendsRows objects m.fields (take i m.fragments) line waiting held mid middle → PrintsFragment objects m.fields f line middle waits mid holds (Err fault) → PrintsAll objects m line waiting waits held holds (Err fault)
+prints_no_more objects m i f line waiting middle waits held mid holds (Outside name why place) columns files below is before stops = record { fragment = f; has_fragment = (i, below, sym is); stands = stops }
+prints_no_more objects m i f line waiting middle waits held mid holds (Store name) columns files below is before stops = fragments_stop objects m.fields m.fragments i f line waiting middle held mid holds columns files below is before stops
+prints_no_more objects m i f line waiting middle waits held mid holds Write columns files below is before stops = fragments_stop objects m.fields m.fragments i f line waiting middle held mid holds columns files below is before stops
+prints_no_more objects m i f line waiting middle waits held mid holds Memory columns files below is before stops = fragments_stop objects m.fields m.fragments i f line waiting middle held mid holds columns files below is before stops
 
 -- no line of the fragment was passed on
-pub stops_before : (front : Option (List ℕ)) (rows : List (List PlainValue)) (waiting : List ℕ) (held : Option (List ℕ)) → Stops front rows waiting held held
-stops_before front rows waiting held = (waiting ++ flat_map (line_behind front) rows, sends_later (flat_map (line_behind front) rows) waiting (waiting ++ flat_map (line_behind front) rows) held refl)
+pub stops_before : (line : List PlainValue → List ℕ) (rows : List (List PlainValue)) (waiting : List ℕ) (held : Option (List ℕ)) → Stops line rows waiting held held
+stops_before line rows waiting held = (waiting ++ flat_map line rows, sends_later (flat_map line rows) waiting (waiting ++ flat_map line rows) held refl)
 
 -- the lines of the fragment's rows stopped, and it has no others
-pub fragment_stops : (objects : List Object) (fields : List (PlainField ℕ)) (f : Fragment) (front : Option (List ℕ)) (found rows : List (List PlainValue)) (waiting : List ℕ) (held holds : Option (List ℕ)) → IsOneColumn fields → IsOneFile f → FragmentRows objects fields f found
-    → Stops front found waiting held holds → FragmentRows objects fields f rows → Stops front rows waiting held holds
-fragment_stops objects fields f front found rows waiting held holds columns file has stops others = subst (λ l. Stops front l waiting held holds) (one_fragment objects fields f found rows columns file has others) stops
+pub fragment_stops : (objects : List Object) (fields : List (PlainField ℕ)) (f : Fragment) (line : List PlainValue → List ℕ) (found rows : List (List PlainValue)) (waiting : List ℕ) (held holds : Option (List ℕ)) → IsOneColumn fields → IsOneFile f → FragmentRows objects fields f found
+    → Stops line found waiting held holds → FragmentRows objects fields f rows → Stops line rows waiting held holds
+fragment_stops objects fields f line found rows waiting held holds columns file has stops others = subst (λ l. Stops line l waiting held holds) (one_fragment objects fields f found rows columns file has others) stops

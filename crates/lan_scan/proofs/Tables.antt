@@ -9,7 +9,7 @@ use Rattle.lan_store.specs.Streams.{and_then_bytes}
 use Rattle.lan_store.specs.declared.name.Object.{Object}
 use Rattle.lan_manifest.specs.Manifests.{PlainManifest}
 use Rattle.lan_manifest.specs.Stage.{IsOneColumn, IsOneFile}
-use Rattle.lan_rows.specs.Rows.{line_behind, line_front, line_of}
+use Rattle.lan_rows.specs.Line.{line_of}
 use Rattle.lan_read.specs.Standing.{RowsOf}
 use Rattle.lan_scan.specs.Printing.{Stops, SendsRows, PrintsAll}
 use Rattle.lan_scan.specs.Scans.{Scans, text_of}
@@ -24,44 +24,43 @@ columns_are : (fields : List Field) → map column_of fields ≡ map unnumbered 
 columns_are [] = refl
 columns_are (f ∷ fs) = ap (λ l. column_of f ∷ l) (columns_are fs)
 
--- what a printer of the fields puts first
-pub front_is : (fields : List Field) (front : Option (List ℕ)) → front ≡ line_front (map column_of fields) → front ≡ line_front (map unnumbered (map plain_field fields))
-front_is fields front is = is ∙ ap line_front (columns_are fields)
+-- the line of a printer of the fields
+pub line_is : (fields printer : List Field) → printer ≡ fields → line_of (map column_of printer) ≡ line_of (map unnumbered (map plain_field fields))
+line_is fields printer is = ap (λ (l : List Field). line_of (map column_of l)) is ∙ ap line_of (columns_are fields)
 
--- the lines of rows, each with its columns' front
-text_is : (fields : List (PlainField ℕ)) (front : Option (List ℕ)) (rows : List (List PlainValue)) → front ≡ line_front (map unnumbered fields) → flat_map (line_behind front) rows ≡ text_of fields rows
-unfolding line_of
-text_is fields front rows is = ap (λ f. flat_map (line_behind f) rows) is
+-- the lines of rows, each with its columns' line
+text_is : (fields : List (PlainField ℕ)) (line : List PlainValue → List ℕ) (rows : List (List PlainValue)) → line ≡ line_of (map unnumbered fields) → flat_map line rows ≡ text_of fields rows
+text_is fields line rows is = ap (λ l. flat_map l rows) is
 
 -- what was sent, as the text of the rows, where nothing was waiting before
-in_text : (m : PlainManifest) (front : Option (List ℕ)) (start rest : List ℕ) (held holds : Option (List ℕ)) (rows : List (List PlainValue)) → front ≡ line_front (map unnumbered m.fields) → start ≡ [] → Sends (flat_map (line_behind front) rows) start held holds rest
+in_text : (m : PlainManifest) (line : List PlainValue → List ℕ) (start rest : List ℕ) (held holds : Option (List ℕ)) (rows : List (List PlainValue)) → line ≡ line_of (map unnumbered m.fields) → start ≡ [] → Sends (flat_map line rows) start held holds rest
     → Sends (text_of m.fields rows) [] held holds rest
-in_text m front start rest held holds rows is none sends = subst (λ l. Sends l [] held holds rest) (text_is m.fields front rows is) (subst (λ l. Sends (flat_map (line_behind front) rows) l held holds rest) none sends)
+in_text m line start rest held holds rows is none sends = subst (λ l. Sends l [] held holds rest) (text_is m.fields line rows is) (subst (λ l. Sends (flat_map line rows) l held holds rest) none sends)
 
-stopped : (m : PlainManifest) (front : Option (List ℕ)) (start : List ℕ) (held holds : Option (List ℕ)) (rows : List (List PlainValue)) → front ≡ line_front (map unnumbered m.fields) → start ≡ [] → Stops front rows start held holds → GotPart (text_of m.fields rows) held holds
-stopped m front start held holds rows is none (rest, sends) = got_part (text_of m.fields rows) rest held holds (in_text m front start rest held holds rows is none sends)
+stopped : (m : PlainManifest) (line : List PlainValue → List ℕ) (start : List ℕ) (held holds : Option (List ℕ)) (rows : List (List PlainValue)) → line ≡ line_of (map unnumbered m.fields) → start ≡ [] → Stops line rows start held holds → GotPart (text_of m.fields rows) held holds
+stopped m line start held holds rows is none (rest, sends) = got_part (text_of m.fields rows) rest held holds (in_text m line start rest held holds rows is none sends)
 
 -- what stopped the lines is the answer
-pub scans_stopped : (objects : List Object) (m : PlainManifest) (front : Option (List ℕ)) (start waits : List ℕ) (held holds : Option (List ℕ)) (fault : ScanFault) → front ≡ line_front (map unnumbered m.fields) → start ≡ [] → PrintsAll objects m front start waits held holds (Err fault)
+pub scans_stopped : (objects : List Object) (m : PlainManifest) (line : List PlainValue → List ℕ) (start waits : List ℕ) (held holds : Option (List ℕ)) (fault : ScanFault) → line ≡ line_of (map unnumbered m.fields) → start ≡ [] → PrintsAll objects m line start waits held holds (Err fault)
     → Scans objects m held holds (Err fault)
-scans_stopped objects m front start waits held holds (Outside name why place) is none stops = stops
-scans_stopped objects m front start waits held holds (Store name) is none stops = λ rows has. stopped m front start held holds rows is none (stops rows has)
-scans_stopped objects m front start waits held holds Write is none stops = λ rows has. stopped m front start held holds rows is none (stops rows has)
-scans_stopped objects m front start waits held holds Memory is none stops = λ rows has. stopped m front start held holds rows is none (stops rows has)
+scans_stopped objects m line start waits held holds (Outside name why place) is none stops = stops
+scans_stopped objects m line start waits held holds (Store name) is none stops = λ rows has. stopped m line start held holds rows is none (stops rows has)
+scans_stopped objects m line start waits held holds Write is none stops = λ rows has. stopped m line start held holds rows is none (stops rows has)
+scans_stopped objects m line start waits held holds Memory is none stops = λ rows has. stopped m line start held holds rows is none (stops rows has)
 
 -- the last lines were written
-pub scans_all : (objects : List Object) (m : PlainManifest) (front : Option (List ℕ)) (start waits last : List ℕ) (held mid holds : Option (List ℕ)) → front ≡ line_front (map unnumbered m.fields) → start ≡ [] → SendsRows objects m.fields m.fragments front start held mid waits
+pub scans_all : (objects : List Object) (m : PlainManifest) (line : List PlainValue → List ℕ) (start waits last : List ℕ) (held mid holds : Option (List ℕ)) → line ≡ line_of (map unnumbered m.fields) → start ≡ [] → SendsRows objects m.fields m.fragments line start held mid waits
     → last ≡ waits → holds ≡ and_then_bytes mid last → (rows : List (List PlainValue)) × RowsOf objects m.fields m.fragments rows × (holds ≡ and_then_bytes held (text_of m.fields rows))
-scans_all objects m front start waits last held mid holds is none passed same wrote =
+scans_all objects m line start waits last held mid holds is none passed same wrote =
     let text = text_of m.fields passed.rows in
-    let sends = sends_then text [] [] waits [] held mid holds (in_text m front start waits held mid passed.rows is none passed.sends) (sends_all waits last mid holds same wrote) in
+    let sends = sends_then text [] [] waits [] held mid holds (in_text m line start waits held mid passed.rows is none passed.sends) (sends_all waits last mid holds same wrote) in
     (passed.rows, passed.of_fragments, got_all (text ++ []) held holds sends ∙ ap (and_then_bytes held) (append-nil text))
 
 -- a front of the last lines was written
-pub scans_part : (objects : List Object) (m : PlainManifest) (front : Option (List ℕ)) (start waits last : List ℕ) (held mid holds : Option (List ℕ)) (k : ℕ) → IsOneColumn m.fields → All IsOneFile m.fragments → front ≡ line_front (map unnumbered m.fields) → start ≡ []
-    → SendsRows objects m.fields m.fragments front start held mid waits → last ≡ waits → holds ≡ and_then_bytes mid (take k last) → (rows : List (List PlainValue)) → RowsOf objects m.fields m.fragments rows → GotPart (text_of m.fields rows) held holds
-scans_part objects m front start waits last held mid holds k columns files is none passed same wrote rows has =
+pub scans_part : (objects : List Object) (m : PlainManifest) (line : List PlainValue → List ℕ) (start waits last : List ℕ) (held mid holds : Option (List ℕ)) (k : ℕ) → IsOneColumn m.fields → All IsOneFile m.fragments → line ≡ line_of (map unnumbered m.fields) → start ≡ []
+    → SendsRows objects m.fields m.fragments line start held mid waits → last ≡ waits → holds ≡ and_then_bytes mid (take k last) → (rows : List (List PlainValue)) → RowsOf objects m.fields m.fragments rows → GotPart (text_of m.fields rows) held holds
+scans_part objects m line start waits last held mid holds k columns files is none passed same wrote rows has =
     let text = text_of m.fields passed.rows in
-    let sends = sends_then text [] [] waits (drop k last) held mid holds (in_text m front start waits held mid passed.rows is none passed.sends) (sends_part waits last mid holds k same wrote) in
+    let sends = sends_then text [] [] waits (drop k last) held mid holds (in_text m line start waits held mid passed.rows is none passed.sends) (sends_part waits last mid holds k same wrote) in
     let same_rows = one_rows objects m.fields m.fragments passed.rows rows columns files passed.of_fragments has in
     subst (λ l. GotPart l held holds) (append-nil text ∙ ap (text_of m.fields) same_rows) (got_part (text ++ []) (drop k last) held holds sends)

@@ -6,7 +6,7 @@ use Rattle.lan_store.specs.declared.name.Name.{Name}
 use Rattle.lan_store.specs.declared.name.Object.{Object}
 use Rattle.lan_manifest.specs.Manifests.{PlainManifest}
 use Rattle.lan_manifest.specs.declared.manifest.Fragment.{Fragment}
-use Rattle.lan_rows.specs.Rows.{line_of}
+use Rattle.lan_rows.specs.Line.{line_of}
 use Rattle.lan_read.specs.Reasons.{StandsInFile}
 use Rattle.lan_read.specs.Standing.{RowsOf}
 use Rattle.lan_file.specs.declared.fault.FileReason.{FileReason}

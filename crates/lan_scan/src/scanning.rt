@@ -3,7 +3,9 @@ ghost use Rattle.std.specs.Prelude.{◌≡◌, ◌≤◌, ℕ, Some, All, IsErrO
 ghost use Rattle.std.specs.Option.{ForSome};
 ghost use Rattle.lan_store.specs.declared.name.Name.{Name};
 ghost use Rattle.lan_store.specs.Causes.{HasCause};
+ghost use Rattle.lan_rows.specs.Line.{line_of};
 ghost use Rattle.lan_model.specs.Plain.{plain_field};
+ghost use Rattle.lan_model.specs.PlainTable.{column_of};
 ghost use Rattle.lan_manifest.specs.Manifests.{plain_manifest};
 ghost use Rattle.lan_manifest.specs.Stage.{IsOneColumn, IsOneFile};
 ghost use Rattle.lan_read.specs.Newest.{IsOpened};
@@ -64,9 +66,9 @@ pub fn print_table<S: Store, O: Sink>(
     ensures clashes { S.clashes store.old ≤ S.clashes store.new }
     ensures write_cause { HasCause (IsErrOf result ScanFault.Write) (O.faults out.old) (O.faults out.new) }
 {
-    let printer = RowPrinter::new(alloc, &manifest.fields)?;
+    let mut printer = RowPrinter::new(alloc, &manifest.fields);
     let mut waiting = Blob::with_capacity(alloc, ROOM)?;
-    print_fragments(alloc, store, manifest, &printer, &mut waiting, out)?;
+    print_fragments(alloc, store, manifest, &mut printer, &mut waiting, out)?;
     match write_all(out, waiting.as_slice()) {
         Ok(()) => Ok(()),
         Err(_) => Err(ScanFault::Write),
@@ -78,17 +80,18 @@ fn print_fragments<S: Store, O: Sink>(
     alloc: Global,
     store: &mut S,
     manifest: &Manifest,
-    printer: &RowPrinter,
+    printer: &mut RowPrinter<'_>,
     waiting: &mut Blob,
     out: &mut O,
 ) -> Result<(), ScanFault>
     requires column { IsOneColumn (plain_manifest manifest.now).fields }
     requires files { All IsOneFile manifest.now.fragments }
     ensures kept { S.objects store.new ≡ S.objects store.old }
-    ensures prints { ForSome (S.objects store.old) (λ all. PrintsAll all (plain_manifest manifest.now) printer.now waiting.old waiting.new (O.held out.old) (O.held out.new) result) }
+    ensures prints { ForSome (S.objects store.old) (λ all. PrintsAll all (plain_manifest manifest.now) (line_of (map column_of printer.old)) waiting.old waiting.new (O.held out.old) (O.held out.new) result) }
     ensures store_cause { HasCause ((name : Name) × IsErrOf result (ScanFault.Store name)) (S.faults store.old) (S.faults store.new) }
     ensures store_name { (name : Name) → IsErrOf result (ScanFault.Store name) → ForSome (S.objects store.old) (λ _. S.failed store.new ≡ Some name) }
     ensures clashes { S.clashes store.old ≤ S.clashes store.new }
+    ensures same { printer.new ≡ printer.old }
     ensures write_cause { HasCause (IsErrOf result ScanFault.Write) (O.faults out.old) (O.faults out.new) }
 {
     for fragment in manifest.fragments.as_slice() {
@@ -111,17 +114,18 @@ fn print_fragment<S: Store, O: Sink>(
     store: &mut S,
     fields: &FieldList,
     fragment: &Fragment,
-    printer: &RowPrinter,
+    printer: &mut RowPrinter<'_>,
     waiting: &mut Blob,
     out: &mut O,
 ) -> Result<(), ScanFault>
     requires column { IsOneColumn (map plain_field fields.now) }
     requires file { IsOneFile fragment.now }
     ensures kept { S.objects store.new ≡ S.objects store.old }
-    ensures prints { ForSome (S.objects store.old) (λ all. PrintsFragment all (map plain_field fields.now) fragment.now printer.now waiting.old waiting.new (O.held out.old) (O.held out.new) result) }
+    ensures prints { ForSome (S.objects store.old) (λ all. PrintsFragment all (map plain_field fields.now) fragment.now (line_of (map column_of printer.old)) waiting.old waiting.new (O.held out.old) (O.held out.new) result) }
     ensures store_cause { HasCause ((name : Name) × IsErrOf result (ScanFault.Store name)) (S.faults store.old) (S.faults store.new) }
     ensures store_name { (name : Name) → IsErrOf result (ScanFault.Store name) → ForSome (S.objects store.old) (λ _. S.failed store.new ≡ Some name) }
     ensures clashes { S.clashes store.old ≤ S.clashes store.new }
+    ensures same { printer.new ≡ printer.old }
     ensures write_cause { HasCause (IsErrOf result ScanFault.Write) (O.faults out.old) (O.faults out.new) }
 {
     let rows = match read_fragment(alloc, store, fields, fragment) {
@@ -132,7 +136,7 @@ fn print_fragment<S: Store, O: Sink>(
         Err(FragmentFault::Store(name)) => return Err(ScanFault::Store(name)),
         Err(FragmentFault::Memory) => return Err(ScanFault::Memory),
     };
-    match print_rows(printer, &rows, waiting, out) {
+    match print_rows(alloc, printer, &rows, waiting, out) {
         Ok(()) => Ok(()),
         Err(SendFault::Write) => Err(ScanFault::Write),
         Err(SendFault::Memory) => Err(ScanFault::Memory),

@@ -1,14 +1,15 @@
 // The lines of rows, to a sink by way of bytes that wait for the next write.
 ghost use Rattle.std.specs.Prelude.{◌≡◌, [], flat_map, map, OnOk, IsErrOf};
 ghost use Rattle.lan_model.specs.Plain.{plain_value};
-ghost use Rattle.lan_model.specs.PlainTable.{row_of};
+ghost use Rattle.lan_model.specs.PlainTable.{column_of, row_of};
 ghost use Rattle.lan_store.specs.Causes.{HasCause};
-ghost use Rattle.lan_rows.specs.Rows.{line_behind};
+ghost use Rattle.lan_rows.specs.Line.{line_of};
 ghost use Rattle.lan_scan.specs.Sending.{Passes};
 
 use lan_model::{Blob, Row, Rows};
 use lan_rows::RowPrinter;
 use lan_store::{Sink, write_all};
+use std::alloc::Global;
 
 /// Why not all lines were passed on.
 #[derive(Clone, Copy, Debug)]
@@ -23,31 +24,35 @@ const PIECE: u64 = 1 << 16;
 
 /// Passes on the lines of the rows, in their order; the last ones may still wait.
 pub fn print_rows<O: Sink>(
-    printer: &RowPrinter,
+    alloc: Global,
+    printer: &mut RowPrinter<'_>,
     rows: &Rows,
     waiting: &mut Blob,
     out: &mut O,
 ) -> Result<(), SendFault>
-    ensures passes { Passes (flat_map (line_behind printer.now) (map row_of rows.now)) waiting.old waiting.new (O.held out.old) (O.held out.new) result }
+    ensures passes { Passes (flat_map (line_of (map column_of printer.old)) (map row_of rows.now)) waiting.old waiting.new (O.held out.old) (O.held out.new) result }
+    ensures same { printer.new ≡ printer.old }
     ensures write_cause { HasCause (IsErrOf result SendFault.Write) (O.faults out.old) (O.faults out.new) }
 {
     for row in rows.as_slice() {
-        print_row(printer, row, waiting, out)?;
+        print_row(alloc, printer, row, waiting, out)?;
     }
     Ok(())
 }
 
 // Passes on the line of a row.
 fn print_row<O: Sink>(
-    printer: &RowPrinter,
+    alloc: Global,
+    printer: &mut RowPrinter<'_>,
     row: &Row,
     waiting: &mut Blob,
     out: &mut O,
 ) -> Result<(), SendFault>
-    ensures passes { Passes (line_behind printer.now (map plain_value row.now)) waiting.old waiting.new (O.held out.old) (O.held out.new) result }
+    ensures passes { Passes (line_of (map column_of printer.old) (map plain_value row.now)) waiting.old waiting.new (O.held out.old) (O.held out.new) result }
+    ensures same { printer.new ≡ printer.old }
     ensures write_cause { HasCause (IsErrOf result SendFault.Write) (O.faults out.old) (O.faults out.new) }
 {
-    if printer.print(row, waiting).is_err() {
+    if printer.print(alloc, row, waiting).is_err() {
         return Err(SendFault::Memory);
     }
     if waiting.len() < PIECE {

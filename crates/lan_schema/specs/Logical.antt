@@ -54,3 +54,9 @@ IsLeafType text = ⊤
 IsLeafType bytes = ⊤
 IsLeafType (list item) = ⊥
 IsLeafType (struct members) = ⊥
+
+-- a type of which each value has as many bits
+abbrev pub IsFixedType : PlainType ℕ → Type 0
+IsFixedType (primitive q) = ⊤
+IsFixedType (vector q n) = (q ≢ p.Bool) × (0 < n) × (n ≤ 65536)
+IsFixedType ty = ⊥

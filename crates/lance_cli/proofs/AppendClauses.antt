@@ -1,6 +1,6 @@
 -- What an `append` does to the tables, from what it read, put and answered.
 use Rattle.std.proofs.Common.{◌≡◌, inl, inr, refl, sym, ◌∙◌, ap, subst, ℕ, ◌+◌, ◌^◌, ◌<◌, ◌≤◌, List, [], ◌++◌, length, take, map, arith, append-nil}
-use Rattle.std.specs.Prelude.{Option, Some, None, option_map, unwrap_or, Result, Ok, Err, IsErrOf, codes, nat_lt, false, true}
+use Rattle.std.specs.Prelude.{Option, Some, None, option_map, unwrap_or, Result, Ok, Err, IsErrOf, nat_lt, false, true}
 use Rattle.std.proofs.lemmas.Bool.Decides.{nat_tests}
 use Rattle.std.proofs.lemmas.Option.{same_Some}
 use Rattle.std.proofs.lemmas.List.{take_all}
@@ -14,6 +14,7 @@ use Rattle.lan_store.specs.Objects.{and_then}
 use Rattle.lan_store.specs.declared.name.Name.{Name}
 use Rattle.lan_store.specs.declared.name.Object.{Object}
 use Rattle.lan_rows.specs.Lines.{rows_of, cut}
+use Rattle.lan_rows.specs.declared.lines.LinesFault.{LinesFault}
 use Rattle.lan_manifest.specs.Manifests.{PlainManifest}
 use Rattle.lan_read.specs.Newest.{NewestManifest}
 use Rattle.lan_read.specs.Standing.{Agrees}
@@ -53,7 +54,7 @@ append_grew c (Err fault.ReadFault) (same, bytes) = nothing_more c.before c.now 
 append_grew c (Err fault.InputTooLong) (long, same, bytes) = nothing_more c.before c.now same
 append_grew c (Err fault.NoDataset) denial = nothing_more c.before c.now denial.objects
 append_grew c (Err (fault.Outside name why place)) denial = nothing_more c.before c.now denial.objects
-append_grew c (Err (fault.BadInput line why)) (is, denial) = nothing_more c.before c.now denial.objects
+append_grew c (Err (fault.BadInput line why)) denial = nothing_more c.before c.now denial.objects
 append_grew c (Err (fault.Limit which number)) denial = nothing_more c.before c.now denial.objects
 append_grew c (Err (fault.Raced name)) (never, (version, applied), bytes) = (take applied.k applied.puts, applied.grew)
 append_grew c (Err (fault.StoreFault name)) stopped = stopped_grew c (λ k n. k ≤ n) stopped
@@ -86,19 +87,8 @@ append_cause words c (Err (fault.Outside name why place)) is denial = (
       let (version, newest, stands) = denial.holds old was in
       (version, newest, (λ t at. unread_or_manifest old version name why place at.manifest stands at.reads), unread_stands old version name why place stands),
 )
-append_cause words c (Err (fault.BadInput line why)) is (why_is, denial) = (
-  is,
-  why_is,
-  λ old was input told.
-      let (m, newest, bad) = denial.holds old was in
-      (m, newest, subst (λ t. rows_of (map unnumbered m.fields) (cut 1 [] t) ≡ Err line) (text_is c denial.text input denial.input told) bad),
-)
-append_cause words c (Err (fault.Limit which number)) is denial = (
-  is,
-  λ old was input told.
-      let (m, rows, newest, reads, limit) = denial.holds old was in
-      (m, rows, newest, subst (λ t. rows_of (map unnumbered m.fields) (cut 1 [] t) ≡ Ok rows) (text_is c denial.text input denial.input told) reads, limit),
-)
+append_cause words c (Err (fault.BadInput line why)) is denial = inr (is, λ old was input told. subst (λ t. RefusesLine old t (fault.BadInput line why)) (text_is c denial.text input denial.input told) (denial.holds old was))
+append_cause words c (Err (fault.Limit which number)) is denial = inr (is, λ old was input told. subst (λ t. ReachesLimit old t which number) (text_is c denial.text input denial.input told) (denial.holds old was))
 append_cause words c (Err (fault.Raced name)) is (never, put, bytes) = never
 append_cause words c (Err (fault.StoreFault name)) is served = tt
 append_cause words c (Err fault.WriteFault) is served = tt
@@ -119,16 +109,16 @@ read_on : (words : List (List ℕ)) (old : List Object) (input : List ℕ) (d : 
 read_on words old input d told outcome m newest r is =
     version_read old d newest.version (λ t. append_reply d told.shown (rows_of t.columns (cut 1 [] input))) outcome r.agrees newest.newest (replied words old input d told outcome r is)
 
-reply_to : (old : List Object) (d : Dataset) (shown : Shown) (lines : List (ℕ × List ℕ)) (outcome : Outcome) (m : PlainManifest) (newest : NewestManifest old m) (rows : Result (List (List PlainValue)) ℕ)
+reply_to : (old : List Object) (d : Dataset) (shown : Shown) (lines : List (ℕ × List ℕ)) (outcome : Outcome) (m : PlainManifest) (newest : NewestManifest old m) (rows : Result (List (List PlainValue)) LinesFault)
     → (read : Read old d newest.version (λ t. append_reply d shown (rows_of t.columns lines)) outcome) → rows_of (map unnumbered m.fields) lines ≡ rows → append_reply d shown rows ≡ Some outcome
 reply_to old d shown lines outcome m newest rows read is =
     ap (append_reply d shown) (sym (ap (λ columns. rows_of columns lines) (columns_of old newest.version read.table m read.stands newest.reads) ∙ is)) ∙ read.reply
 
 -- the first line that is no row
-pub bad_outcome : (words : List (List ℕ)) (old : List Object) (input : List ℕ) (d : Dataset) (told : Told) (outcome : Outcome) (line : ℕ) → IsReply words old input d told outcome → asked_of words ≡ Some append → RefusesLine old input line
-    → outcome ≡ refused (fault.BadInput line (codes "bad row"))
-bad_outcome words old input d told outcome line r is (m, newest, bad) =
-    same_Some outcome (refused (fault.BadInput line (codes "bad row"))) (sym (reply_to old d told.shown (cut 1 [] input) outcome m newest (Err line) (read_on words old input d told outcome m newest r is) bad))
+pub bad_outcome : (words : List (List ℕ)) (old : List Object) (input : List ℕ) (d : Dataset) (told : Told) (outcome : Outcome) (f : Fault) → IsReply words old input d told outcome → asked_of words ≡ Some append → RefusesLine old input f
+    → outcome ≡ refused f
+bad_outcome words old input d told outcome f r is (m, why, newest, bad, same) =
+    same_Some outcome (refused f) (sym (reply_to old d told.shown (cut 1 [] input) outcome m newest (Err why) (read_on words old input d told outcome m newest r is) bad) ∙ ap (λ g. Some (refused g)) (sym same))
 
 limit_is : (words : List (List ℕ)) (old : List Object) (input : List ℕ) (d : Dataset) (told : Told) (outcome : Outcome) (m : PlainManifest) (rows : List (List PlainValue)) → IsReply words old input d told outcome → asked_of words ≡ Some append → NewestManifest old m
     → rows_of (map unnumbered m.fields) (cut 1 [] input) ≡ Ok rows → told.shown.limit ≡ limit_of old m rows
@@ -243,11 +233,11 @@ append_decided words c (Err (fault.Outside name why place)) a b i j s t is denia
     let (version, newest, stands) = denial.holds old was in
     let read = version_read old d version (λ t. append_reply d told.shown (rows_of t.columns (cut 1 [] input))) outcome r.agrees newest (replied words old input d told outcome r is) in
     absurd (unread_or_manifest old version name why place read.stands.manifest stands read.stands.reads)
-append_decided words c (Err (fault.BadInput line why)) a b i j s t is (why_is, denial) store source sink = λ calm old was input heard d told outcome r.
+append_decided words c (Err (fault.BadInput line why)) a b i j s t is denial store source sink = λ calm old was input heard d told outcome r.
     let given = given_is words c.given input is heard in
-    let bad = subst (λ t. RefusesLine old t line) (text_is c denial.text input denial.input given) (denial.holds old was) in
-    let replies = bad_outcome words old input d told outcome line r is bad in
-    inl (expects input told.asked outcome (Err (fault.BadInput line why)) (not_long c denial.text input denial.input given) (told_as words old input d told outcome append r is) (ap (λ w. Err (fault.BadInput line w)) why_is ∙ ap answered (sym replies)))
+    let bad = subst (λ t. RefusesLine old t (fault.BadInput line why)) (text_is c denial.text input denial.input given) (denial.holds old was) in
+    let replies = bad_outcome words old input d told outcome (fault.BadInput line why) r is bad in
+    inl (expects input told.asked outcome (Err (fault.BadInput line why)) (not_long c denial.text input denial.input given) (told_as words old input d told outcome append r is) (ap answered (sym replies)))
 append_decided words c (Err (fault.Limit which number)) a b i j s t is denial store source sink = λ calm old was input heard d told outcome r.
     let given = given_is words c.given input is heard in
     let reaches = subst (λ t. ReachesLimit old t which number) (text_is c denial.text input denial.input given) (denial.holds old was) in

@@ -1,13 +1,13 @@
 pub mod AppendClauses
 pub mod AppendMoments
 pub mod Asking
-pub mod ColumnNames
+pub mod Built
 pub mod CreateClauses
 pub mod NewestReply
 pub mod Refusing
 pub mod Replying
 pub mod RunClauses
 pub mod ScanClauses
-pub mod SchemaViews
+pub mod SchemaClauses
 pub mod Serving
 pub mod Unchanged

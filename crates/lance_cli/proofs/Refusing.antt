@@ -1,6 +1,6 @@
 -- Refusals of an `append` come where they are due, also on a version whose data doesn't stand.
 use Rattle.std.proofs.Common.{◌≡◌, inl, inr, refl, sym, ◌∙◌, ap, subst, ℕ, ◌^◌, ◌<◌, ◌≤◌, List, length, arith}
-use Rattle.std.specs.Prelude.{Some, Result, Ok, Err, IsErrOf, codes}
+use Rattle.std.specs.Prelude.{Some, Result, Ok, Err, IsErrOf}
 use Rattle.std.proofs.lemmas.Option.{same_Some}
 use Rattle.lan_store.specs.Causes.{HasCause}
 use Rattle.lan_store.specs.declared.name.Name.{Name}
@@ -15,7 +15,8 @@ use Rattle.lance_cli.specs.Appends.{Accepts, RefusesLine, ReachesLimit, AppendSe
 use Rattle.lance_cli.specs.Causes.{IsLong}
 use Rattle.lance_cli.specs.Changes.{Change}
 use Rattle.lance_cli.specs.Clauses.{Fails, RefusedBy, Answers, Refused}
-use Rattle.lance_cli.specs.Commands.{Asked, create, append, scan}
+use Rattle.lance_cli.specs.Commands.{Asked, create, append, scan, schema}
+use Rattle.lance_cli.specs.Faults.{of_lines}
 use Rattle.lance_cli.specs.Replies.{asked_of}
 use Rattle.lance_cli.specs.declared.fault.Fault.{Fault}
 use Rattle.lance_cli.specs.declared.fault.Fault.TheVariants as fault
@@ -32,19 +33,19 @@ newest_one old m n a b =
 not_refused : (old : List Object) (input : List ℕ) (version : ℕ) (puts : List Object) (a : Accepts old input version puts) (m : PlainManifest) (f : Fault) → NewestManifest old m → RefusedBy old input m f → ⊥
 not_refused old input version puts a m f newest refused = go f (subst (λ n. RefusedBy old input n f) (newest_one old m a.manifest newest a.newest) refused) where
   go : (f : Fault) → RefusedBy old input a.manifest f → ⊥
-  go (fault.BadInput line why) (is, bad) = cc (sym a.reads ∙ bad)
+  go (fault.BadInput line words) (why, bad, is) = cc (sym a.reads ∙ bad)
   go (fault.Limit which number) (rows, reads, limit) =
       let same : a.rows ≡ rows = cc (sym a.reads ∙ reads) in
       cc (sym a.no_limit ∙ ap (limit_of old a.manifest) same ∙ limit)
   go f refused = absurd refused
 
 -- the first bad line is told
-bad_told : (old : List Object) (input : List ℕ) (line : ℕ) (why : List ℕ) (m : PlainManifest) (f : Fault) → NewestManifest old m → why ≡ codes "bad row" → RefusesLine old input line → RefusedBy old input m f → f ≡ fault.BadInput line why
-bad_told old input line why m f newest why_is (n, newest_n, bad) refused = go f (subst (λ n. RefusedBy old input n f) (newest_one old m n newest newest_n) refused) where
-  go : (f : Fault) → RefusedBy old input n f → f ≡ fault.BadInput line why
-  go (fault.BadInput other words) (is, also) =
-      let same : other ≡ line = cc (sym also ∙ bad) in
-      λ i. fault.BadInput (same i) ((is ∙ sym why_is) i)
+bad_told : (old : List Object) (input : List ℕ) (g : Fault) (m : PlainManifest) (f : Fault) → NewestManifest old m → RefusesLine old input g → RefusedBy old input m f → f ≡ g
+bad_told old input g m f newest (n, why, newest_n, bad, is) refused = go f (subst (λ n. RefusedBy old input n f) (newest_one old m n newest newest_n) refused) where
+  go : (f : Fault) → RefusedBy old input n f → f ≡ g
+  go (fault.BadInput line words) (other, also, told) =
+      let same : other ≡ why = cc (sym also ∙ bad) in
+      told ∙ ap of_lines same ∙ sym is
   go (fault.Limit which number) (rows, reads, limit) = absurd (cc (sym reads ∙ bad))
   go f refused = absurd refused
 
@@ -52,7 +53,7 @@ bad_told old input line why m f newest why_is (n, newest_n, bad) refused = go f 
 limit_told : (old : List Object) (input : List ℕ) (which : Which) (number : ℕ) (m : PlainManifest) (f : Fault) → NewestManifest old m → ReachesLimit old input which number → RefusedBy old input m f → f ≡ fault.Limit which number
 limit_told old input which number m f newest (n, rows, newest_n, reads, limit) refused = go f (subst (λ n. RefusedBy old input n f) (newest_one old m n newest newest_n) refused) where
   go : (f : Fault) → RefusedBy old input n f → f ≡ fault.Limit which number
-  go (fault.BadInput line why) (is, bad) = absurd (cc (sym reads ∙ bad))
+  go (fault.BadInput line words) (why, bad, is) = absurd (cc (sym reads ∙ bad))
   go (fault.Limit other most) (others, also, reached) =
       let same : rows ≡ others = cc (sym reads ∙ also) in
       let pair = same_Some (other, most) (which, number) (sym reached ∙ sym (ap (limit_of old n) same) ∙ limit) in
@@ -67,7 +68,7 @@ append_long c (Err fault.ReadFault) a b i j s t served store source sink calm in
 append_long c (Err fault.InputTooLong) a b i j s t served store source sink calm input told long = inl refl
 append_long c (Err fault.NoDataset) a b i j s t refused store source sink calm input told long = absurd (omega (arith, long, not_long c refused.text input refused.input told))
 append_long c (Err (fault.Outside name why place)) a b i j s t refused store source sink calm input told long = absurd (omega (arith, long, not_long c refused.text input refused.input told))
-append_long c (Err (fault.BadInput line why)) a b i j s t (is, refused) store source sink calm input told long = absurd (omega (arith, long, not_long c refused.text input refused.input told))
+append_long c (Err (fault.BadInput line why)) a b i j s t refused store source sink calm input told long = absurd (omega (arith, long, not_long c refused.text input refused.input told))
 append_long c (Err (fault.Limit which number)) a b i j s t refused store source sink calm input told long = absurd (omega (arith, long, not_long c refused.text input refused.input told))
 append_long c (Err (fault.Raced name)) a b i j s t (never, (version, applied), bytes) store source sink calm input told long = absurd (omega (arith, long, not_long c applied.text input applied.input told))
 append_long c (Err (fault.StoreFault name)) a b i j s t served store source sink calm input told long = absurd (calm (inl (store.rose (name, refl))))
@@ -87,9 +88,9 @@ append_due c (Err (fault.Outside name why place)) a b i j s t outside store sour
     let (version, is_newest, stands) = outside.holds old was in
     let same : newest.version ≡ version = omega (arith, is_newest.newest newest.version newest.newest.listed, newest.newest.newest version is_newest.listed) in
     absurd (unread_or_manifest old version name why place m stands (subst (λ v. ManifestAt old v m) same newest.reads))
-append_due c (Err (fault.BadInput line why)) a b i j s t (why_is, bad) store source sink calm old was input told m f newest short refused =
-    let line_bad = subst (λ t. RefusesLine old t line) (text_is c bad.text input bad.input told) (bad.holds old was) in
-    inl (ap (λ f. Err f) (sym (bad_told old input line why m f newest why_is line_bad refused)))
+append_due c (Err (fault.BadInput line why)) a b i j s t bad store source sink calm old was input told m f newest short refused =
+    let line_bad = subst (λ t. RefusesLine old t (fault.BadInput line why)) (text_is c bad.text input bad.input told) (bad.holds old was) in
+    inl (ap (λ f. Err f) (sym (bad_told old input (fault.BadInput line why) m f newest line_bad refused)))
 append_due c (Err (fault.Limit which number)) a b i j s t limit store source sink calm old was input told m f newest short refused =
     let reaches = subst (λ t. ReachesLimit old t which number) (text_is c limit.text input limit.input told) (limit.holds old was) in
     inl (ap (λ f. Err f) (sym (limit_told old input which number m f newest reaches refused)))
@@ -117,3 +118,4 @@ none_refused words c result Failed other = λ calm. record {
   reads (create json) input long = absurd long
   reads append input long = refl
   reads scan input long = absurd long
+  reads schema input long = absurd long

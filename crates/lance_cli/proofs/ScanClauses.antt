@@ -9,7 +9,7 @@ use Rattle.lan_model.specs.Table.{Table}
 use Rattle.lan_store.specs.Causes.{HasCause}
 use Rattle.lan_store.specs.declared.name.Name.{Name}
 use Rattle.lan_store.specs.declared.name.Object.{Object}
-use Rattle.lan_rows.specs.Rows.{line_of}
+use Rattle.lan_rows.specs.Line.{line_of}
 use Rattle.lan_manifest.specs.Manifests.{PlainManifest}
 use Rattle.lan_manifest.specs.Reads.{ManifestAt}
 use Rattle.lan_manifest.specs.Versions.{IsNewest}

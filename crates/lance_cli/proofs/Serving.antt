@@ -1,10 +1,10 @@
 -- What each step of a command has answered is what the command answers.
-use Rattle.std.proofs.Common.{◌≡◌, inl, inr, refl, sym, ◌∙◌, ap, subst, ℕ, ◌+◌, ◌<◌, List, [], ◌∷◌, length, map, arith, IsUtf8}
-use Rattle.std.specs.Prelude.{Option, Some, Result, Ok, Err, Vec}
+use Rattle.std.proofs.Common.{◌≡◌, inl, inr, refl, sym, ◌∙◌, ap, subst, ℕ, ◌+◌, ◌<◌, List, [], ◌∷◌, ◌++◌, length, map, arith}
+use Rattle.std.specs.Prelude.{Option, Some, Result, Ok, Err, Vec, codes}
 use Rattle.std.specs.declared.alloc.Global.{Global}
 use Rattle.std.specs.Option.{ForSome}
 use Rattle.std.proofs.lemmas.List.{take_all}
-use Rattle.lan_model.specs.Plain.{PlainValue, unnumbered, plain_field}
+use Rattle.lan_model.specs.Plain.{PlainField, PlainValue, unnumbered, plain_field, plain_fields, fields_from}
 use Rattle.lan_model.specs.PlainTable.{column_of}
 use Rattle.lan_model.specs.declared.tree.Field.{Field}
 use Rattle.lan_store.specs.Objects.{and_then}
@@ -13,14 +13,21 @@ use Rattle.lan_store.specs.declared.name.Name.{Name}
 use Rattle.lan_store.specs.declared.name.Object.{Object}
 use Rattle.lan_manifest.specs.Manifests.{PlainManifest, plain_manifest}
 use Rattle.lan_manifest.specs.declared.manifest.Manifest.{Manifest}
+use Rattle.lan_form.specs.Form.{form}
+use Rattle.lan_form.specs.Printed.{json_of}
+use Rattle.lan_form.proofs.Unnumbered.{numbers_are_not_printed}
+use Rattle.lan_form.specs.declared.faults.FormFault.{FormFault}
+use Rattle.lan_form.specs.declared.faults.FormFault.TheVariants as unformed
 use Rattle.lan_rows.specs.Lines.{rows_of, cut}
+use Rattle.lan_rows.specs.declared.lines.LinesFault.{LinesFault}
+use Rattle.lan_rows.specs.declared.lines.LinesFault.TheVariants as unlined
 use Rattle.lan_read.specs.Newest.{NewestManifest}
 use Rattle.lan_read.specs.Opens.{OpensNewest}
 use Rattle.lan_read.proofs.OneTable.{unread_stands}
 use Rattle.lan_read.specs.declared.fault.ReadFault.{ReadFault}
 use Rattle.lan_read.specs.declared.fault.ReadFault.TheVariants as unread
 use Rattle.lan_commit.specs.Commits.{Commits}
-use Rattle.lan_commit.specs.Creates.{IsCreated}
+use Rattle.lan_commit.specs.Creates.{IsCreated, Creates}
 use Rattle.lan_commit.specs.Prepares.{PreparesAppend, StopsRightly}
 use Rattle.lan_commit.specs.declared.committing.CommitFault.{CommitFault}
 use Rattle.lan_commit.specs.declared.committing.CommitFault.TheVariants as unmade
@@ -30,20 +37,66 @@ use Rattle.lan_scan.specs.declared.scanning.ScanFault.{ScanFault}
 use Rattle.lan_scan.specs.declared.scanning.ScanFault.TheVariants as unscanned
 use Rattle.lance_cli.specs.Appends.{IsInput, Accepts, RowsAre, Prepares, ReadsInput, Applied, AppendServed}
 use Rattle.lance_cli.specs.Changes.{Change}
-use Rattle.lance_cli.specs.Commands.{column_name}
-use Rattle.lance_cli.specs.Creates.{CreateServed}
-use Rattle.lance_cli.specs.Faults.{of_read, of_commit, of_scan}
+use Rattle.lance_cli.specs.Creates.{TakesFields, ReadsFields, CreateServed}
+use Rattle.lance_cli.specs.Faults.{of_read, of_commit, of_form, of_lines, of_scan}
 use Rattle.lance_cli.specs.ScansNewest.{ScanServed}
-use Rattle.lance_cli.specs.Reports.{version_text, PrintsReply}
+use Rattle.lance_cli.specs.Schemas.{SchemaServed}
+use Rattle.lance_cli.specs.Reports.{version_text, schema_text, PrintsReply}
 use Rattle.lance_cli.specs.declared.fault.Fault.{Fault}
 use Rattle.lance_cli.specs.declared.fault.Fault.TheVariants as fault
 
 -- a dataset was created, and its reply was printed or not
-pub create_replied : (json column : List ℕ) (before now : Option (List Object)) (held holds : Option (List ℕ)) (result : Result Unit Fault) → IsUtf8 column → column_name json ≡ Some column → IsCreated column before now → PrintsReply (version_text 1) held holds result
+pub create_replied : (json : List ℕ) (fields : List (PlainField ℕ)) (before now : Option (List Object)) (held holds : Option (List ℕ)) (result : Result Unit Fault) → TakesFields json fields → IsCreated fields before now → PrintsReply (version_text 1) held holds result
     → CreateServed json before now held holds result
-create_replied json column before now held holds (Ok _) utf8 named created prints = record { due = ((column, named), created.none); leaves = ((column, utf8, named, created), prints) }
-create_replied json column before now held holds (Err fault.WriteFault) utf8 named created prints = record { due = tt; leaves = ((column, utf8, named, created), prints) }
-create_replied json column before now held holds (Err f) utf8 named created prints = absurd prints
+create_replied json fields before now held holds (Ok _) t created prints = record { due = ((fields, t.takes, created.short), created.none); leaves = (record { fields = fields; of_text = t; created = created }, prints) }
+create_replied json fields before now held holds (Err fault.WriteFault) t created prints = record { due = tt; leaves = (record { fields = fields; of_text = t; created = created }, prints) }
+create_replied json fields before now held holds (Err f) t created prints = absurd prints
+
+-- no dataset was created
+pub uncreated_served : (json : List ℕ) (fields : List (PlainField ℕ)) (before now : Option (List Object)) (held : Option (List ℕ)) (f : CommitFault) → TakesFields json fields → Creates fields before now (Err f) → CreateServed json before now held held (Err (of_commit f))
+uncreated_served json fields before now held (unmade.AlreadyThere version) t (newest, same) = record { due = ((fields, t.takes), newest); leaves = (same, refl) }
+uncreated_served json fields before now held (unmade.Limit which number) t (none, limit, same) = record { due = ((fields, t.takes, limit), none); leaves = (same, refl) }
+uncreated_served json fields before now held (unmade.Raced name) t (named, never, same) = record { due = (named, never); leaves = (same, refl) }
+uncreated_served json fields before now held (unmade.Store name) t left = record {
+  due = tt;
+  leaves = (
+    elim left [
+      | inl same ↦ inl same
+      | inr created ↦ inr (record { fields = fields; of_text = t; created = created })
+    ],
+    refl,
+  );
+}
+uncreated_served json fields before now held unmade.Memory t same = record { due = tt; leaves = (same, refl) }
+
+-- the text gives no fields of which tables are made
+pub unread_fields : (json : List ℕ) (objects : Option (List Object)) (held : Option (List ℕ)) (f : Fault) → ReadsFields json (Err f) → CreateServed json objects objects held held (Err f)
+unread_fields json objects held (fault.BadInput line why) bad = record { due = bad; leaves = (refl, refl) }
+unread_fields json objects held fault.NotBuilt unbuilt = record { due = unbuilt; leaves = (refl, refl) }
+unread_fields json objects held fault.Memory memory = record { due = tt; leaves = (refl, refl) }
+unread_fields json objects held f bad = absurd bad
+
+-- a text that is no schema
+pub refuses_form : (json : List ℕ) (why : FormFault) (f : Fault) → form json ≡ Err why → f ≡ of_form why → ReadsFields json (Err f)
+refuses_form json why f bad is = subst (λ g. ReadsFields json (Err g)) (sym is) (go why bad) where
+  go : (why : FormFault) → form json ≡ Err why → ReadsFields json (Err (of_form why))
+  go unformed.Json bad = (unformed.Json, bad, refl)
+  go unformed.Form bad = (unformed.Form, bad, refl)
+  go unformed.NoName bad = (unformed.NoName, bad, refl)
+  go (unformed.SameName name) bad = (unformed.SameName name, bad, refl)
+  go (unformed.UnknownType kind) bad = (unformed.UnknownType kind, bad, refl)
+  go unformed.NoFields bad = (unformed.NoFields, bad, refl)
+  go unformed.TooDeep bad = (unformed.TooDeep, bad, refl)
+  go unformed.TooManyLeaves bad = (unformed.TooManyLeaves, bad, refl)
+  go unformed.Memory bad = tt
+
+-- lines that are no rows
+pub refuses_lines : (wanted : Result (List (List PlainValue)) LinesFault) (why : LinesFault) (f : Fault) → wanted ≡ Err why → f ≡ of_lines why → RowsAre wanted (Err f)
+refuses_lines wanted why f bad is = subst (λ g. RowsAre wanted (Err g)) (sym is) (go why bad) where
+  go : (why : LinesFault) → wanted ≡ Err why → RowsAre wanted (Err (of_lines why))
+  go (unlined.Bad line fault) bad = (unlined.Bad line fault, bad, refl)
+  go (unlined.LineTooLong line) bad = (unlined.LineTooLong line, bad, refl)
+  go unlined.Memory bad = tt
 
 -- the input wasn't read
 pub unread_served : (c : Change) (f : Fault) → ReadsInput c.given c.left (Err f) → c.now ≡ c.before → c.holds ≡ c.held → AppendServed c (Err f)
@@ -56,7 +109,7 @@ unread_served c f failed same bytes = absurd failed
 pub unprepared_served : (c : Change) (text : List ℕ) (f : Fault) → IsInput c.given c.left text → Prepares c.before text (Err f) → c.now ≡ c.before → c.holds ≡ c.held → AppendServed c (Err f)
 unprepared_served c text fault.NoDataset input none same bytes = record { text = text; input = input; holds = none; objects = same; bytes = bytes }
 unprepared_served c text (fault.Outside name why place) input unread same bytes = record { text = text; input = input; holds = unread; objects = same; bytes = bytes }
-unprepared_served c text (fault.BadInput line why) input (is, bad) same bytes = (is, record { text = text; input = input; holds = bad; objects = same; bytes = bytes })
+unprepared_served c text (fault.BadInput line why) input bad same bytes = record { text = text; input = input; holds = bad; objects = same; bytes = bytes }
 unprepared_served c text (fault.Limit which number) input limit same bytes = record { text = text; input = input; holds = limit; objects = same; bytes = bytes }
 unprepared_served c text (fault.StoreFault name) input failed same bytes = (inl same, bytes)
 unprepared_served c text fault.Memory input failed same bytes = (inl same, bytes)
@@ -109,16 +162,30 @@ append_replied c text version puts (Ok _) input accepts grew prints = (version, 
 append_replied c text version puts (Err fault.WriteFault) input accepts grew prints = (version, all_put c text version puts input accepts grew, prints)
 append_replied c text version puts (Err f) input accepts grew prints = absurd prints
 
-columns_are : (fields : List Field) → map column_of fields ≡ map unnumbered (map plain_field fields)
+pub columns_are : (fields : List Field) → map column_of fields ≡ map unnumbered (map plain_field fields)
 columns_are [] = refl
 columns_are (f ∷ fs) = ap (λ l. column_of f ∷ l) (columns_are fs)
 
-pub reads_as : (fields : List Field) (text : List ℕ) (rows : Result (List (List PlainValue)) ℕ) → rows_of (map column_of fields) (cut 1 [] text) ≡ rows → rows_of (map unnumbered (map plain_field fields)) (cut 1 [] text) ≡ rows
+-- the schema on a line doesn't tell numbers
+pub line_is : (fields : List Field) (text : List ℕ) → text ≡ json_of (plain_fields fields) → text ++ codes "\n" ≡ schema_text (map column_of fields)
+line_is fields text is = ap (λ t. t ++ codes "\n") (is ∙ numbers_are_not_printed (map plain_field fields) ∙ ap (λ columns. json_of (fields_from columns)) (sym (columns_are fields)))
+
+-- the schema's line was printed or not
+pub schema_replied : (before now : Option (List Object)) (held holds : Option (List ℕ)) (m : Manifest) (line : List ℕ) (result : Result Unit Fault) → now ≡ before → ForSome before (λ all. NewestManifest all (plain_manifest m))
+    → line ≡ schema_text (map column_of m.fields) → PrintsReply line held holds result → SchemaServed before now held holds result
+schema_replied before now held holds m line result same opens is prints =
+    go result (subst (λ text. PrintsReply text held holds result) (is ∙ ap schema_text (columns_are m.fields)) prints) where
+      go : (result : Result Unit Fault) → PrintsReply (schema_text (map unnumbered (map plain_field m.fields))) held holds result → SchemaServed before now held holds result
+      go (Ok _) prints = record { objects = same; answers = λ all told. (plain_manifest m, opens all told, prints) }
+      go (Err fault.WriteFault) prints = record { objects = same; answers = λ all told. (plain_manifest m, opens all told, prints) }
+      go (Err f) prints = absurd prints
+
+pub reads_as : (fields : List Field) (text : List ℕ) (rows : Result (List (List PlainValue)) LinesFault) → rows_of (map column_of fields) (cut 1 [] text) ≡ rows → rows_of (map unnumbered (map plain_field fields)) (cut 1 [] text) ≡ rows
 reads_as fields text rows is = ap (λ columns. rows_of columns (cut 1 [] text)) (sym (columns_are fields)) ∙ is
 
 -- a line of the text is no row
 pub unread_rows : (before : Option (List Object)) (m : Manifest) (text : List ℕ) (f : Fault) → ForSome before (λ all. NewestManifest all (plain_manifest m)) → RowsAre (rows_of (map column_of m.fields) (cut 1 [] text)) (Err f) → Prepares before text (Err f)
-unread_rows before m text (fault.BadInput line why) opens (is, bad) = (is, λ all told. (plain_manifest m, opens all told, reads_as m.fields text (Err line) bad))
+unread_rows before m text (fault.BadInput line words) opens (why, bad, is) = λ all told. (plain_manifest m, why, opens all told, reads_as m.fields text (Err why) bad, is)
 unread_rows before m text fault.Memory opens rows = tt
 unread_rows before m text f opens rows = absurd rows
 

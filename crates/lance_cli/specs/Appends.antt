@@ -1,5 +1,5 @@
 -- What `append` answers, and leaves.
-use Rattle.std.specs.Prelude.{◌≡◌, ◌⊎◌, ℕ, ◌+◌, ◌<◌, ◌≤◌, ◌^◌, ⊤, List, [], length, take, map, codes, All, Option, Some, None, Vec, Result, Ok, Err}
+use Rattle.std.specs.Prelude.{◌≡◌, ◌⊎◌, ℕ, ◌+◌, ◌<◌, ◌≤◌, ◌^◌, ⊤, List, [], length, take, map, All, Option, Some, None, Vec, Result, Ok, Err}
 use Rattle.std.specs.Option.{ForSome}
 use Rattle.std.specs.declared.alloc.Global.{Global}
 use Rattle.lan_model.specs.Plain.{PlainValue, unnumbered}
@@ -13,6 +13,7 @@ use Rattle.lan_store.specs.declared.name.Object.{Object}
 use Rattle.lan_manifest.specs.Manifests.{PlainManifest}
 use Rattle.lan_manifest.specs.Versions.{IsNewest, NoneListed}
 use Rattle.lan_rows.specs.Lines.{rows_of, cut}
+use Rattle.lan_rows.specs.declared.lines.LinesFault.{LinesFault}
 use Rattle.lan_read.specs.Newest.{NewestManifest}
 use Rattle.lan_read.specs.Reasons.{StandsUnread}
 use Rattle.lan_read.specs.declared.fault.Reason.{Reason}
@@ -20,6 +21,7 @@ use Rattle.lan_commit.specs.Puts.{append_puts, limit_of}
 use Rattle.lan_commit.specs.declared.limits.Which.{Which}
 use Rattle.lan_scan.specs.Sending.{GotPart}
 use Rattle.lance_cli.specs.Changes.{Change}
+use Rattle.lance_cli.specs.Faults.{of_lines}
 use Rattle.lance_cli.specs.Reports.{version_text}
 use Rattle.lance_cli.specs.declared.append.Change.{Change as Planned}
 use Rattle.lance_cli.specs.declared.fault.Fault.{Fault}
@@ -45,9 +47,9 @@ pub record Accepts (objects : List Object) (text : List ℕ) (version : ℕ) (pu
 abbrev pub IsUnread : List Object → Name → Reason → ℕ → Type 0
 IsUnread objects name why place = (version : ℕ) × IsNewest objects version × StandsUnread objects version name why place
 
--- the first line of the text that is no row
-abbrev pub RefusesLine : List Object → List ℕ → ℕ → Type 0
-RefusesLine objects text line = (m : PlainManifest) × NewestManifest objects m × (rows_of (map unnumbered m.fields) (cut 1 [] text) ≡ Err line)
+-- a line of the text is no row, and the fault names the first and says why
+abbrev pub RefusesLine : List Object → List ℕ → Fault → Type 0
+RefusesLine objects text f = (m : PlainManifest) × (why : LinesFault) × NewestManifest objects m × (rows_of (map unnumbered m.fields) (cut 1 [] text) ≡ Err why) × (f ≡ of_lines why)
 
 -- the limit that the rows of the text reach
 abbrev pub ReachesLimit : List Object → List ℕ → Which → ℕ → Type 0
@@ -58,7 +60,7 @@ abbrev pub Prepares : Option (List Object) → List ℕ → Result Planned Fault
 Prepares before text (Ok planned) = ForSome before (λ all. Accepts all text planned.version planned.objects.items)
 Prepares before text (Err fault.NoDataset) = ForSome before NoneListed
 Prepares before text (Err (fault.Outside name why place)) = ForSome before (λ all. IsUnread all name why place)
-Prepares before text (Err (fault.BadInput line why)) = (why ≡ codes "bad row") × ForSome before (λ all. RefusesLine all text line)
+Prepares before text (Err (fault.BadInput line why)) = ForSome before (λ all. RefusesLine all text (fault.BadInput line why))
 Prepares before text (Err (fault.Limit which number)) = ForSome before (λ all. ReachesLimit all text which number)
 Prepares before text (Err (fault.StoreFault name)) = ⊤
 Prepares before text (Err fault.Memory) = ⊤
@@ -72,10 +74,10 @@ ReadsInput given left (Err fault.ReadFault) = ⊤
 ReadsInput given left (Err fault.Memory) = ⊤
 ReadsInput given left (Err f) = ⊥
 
--- the rows of the lines, or the first line that is none
-abbrev pub RowsAre : Result (List (List PlainValue)) ℕ → Result (List (List Val)) Fault → Type 0
+-- the rows of the lines, or why there are none
+abbrev pub RowsAre : Result (List (List PlainValue)) LinesFault → Result (List (List Val)) Fault → Type 0
 RowsAre wanted (Ok rows) = wanted ≡ Ok (map row_of rows)
-RowsAre wanted (Err (fault.BadInput line why)) = (why ≡ codes "bad row") × (wanted ≡ Err line)
+RowsAre wanted (Err (fault.BadInput line words)) = (why : LinesFault) × (wanted ≡ Err why) × (fault.BadInput line words ≡ of_lines why)
 RowsAre wanted (Err fault.Memory) = ⊤
 RowsAre wanted (Err f) = ⊥
 
@@ -107,7 +109,7 @@ AppendServed c (Err fault.ReadFault) = (c.now ≡ c.before) × (c.holds ≡ c.he
 AppendServed c (Err fault.InputTooLong) = ForSome c.given (λ all. TookOver (2 ^ 28) all c.left) × (c.now ≡ c.before) × (c.holds ≡ c.held)
 AppendServed c (Err fault.NoDataset) = Refused c (λ all text. NoneListed all)
 AppendServed c (Err (fault.Outside name why place)) = Refused c (λ all text. IsUnread all name why place)
-AppendServed c (Err (fault.BadInput line why)) = (why ≡ codes "bad row") × Refused c (λ all text. RefusesLine all text line)
+AppendServed c (Err (fault.BadInput line why)) = Refused c (λ all text. RefusesLine all text (fault.BadInput line why))
 AppendServed c (Err (fault.Limit which number)) = Refused c (λ all text. ReachesLimit all text which number)
 AppendServed c (Err (fault.Raced name)) = ForSome c.before (λ _. ⊥) × ((version : ℕ) × Applied c version (λ k n. k < n)) × (c.holds ≡ c.held)
 AppendServed c (Err (fault.StoreFault name)) = Stopped c (λ k n. k ≤ n)

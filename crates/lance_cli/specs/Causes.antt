@@ -1,18 +1,14 @@
 -- Why each fault comes: one word a variant.
-use Rattle.std.specs.Prelude.{◌≡◌, ℕ, ◌<◌, ◌^◌, ⊤, List, [], length, codes, map, Option, Some, None, Result, Ok, Err}
+use Rattle.std.specs.Prelude.{◌≡◌, ◌⊎◌, ℕ, ◌<◌, ◌^◌, ⊤, List, [], length, Option, Some, None, Result, Ok, Err}
 use Rattle.std.specs.Option.{ForSome}
-use Rattle.lan_model.specs.Plain.{unnumbered}
 use Rattle.lan_model.specs.Table.{Table}
 use Rattle.lan_store.specs.declared.name.Name.{Name}
 use Rattle.lan_store.specs.declared.name.Object.{Object}
-use Rattle.lance_cli.specs.Commands.{Asked, create, append, column_name}
-use Rattle.lan_model.specs.Plain.{PlainValue}
-use Rattle.lan_manifest.specs.Manifests.{PlainManifest}
-use Rattle.lan_commit.specs.Puts.{limit_of}
-use Rattle.lan_read.specs.Newest.{NewestManifest}
+use Rattle.lance_cli.specs.Appends.{RefusesLine, ReachesLimit}
+use Rattle.lance_cli.specs.Commands.{Asked, create, append}
+use Rattle.lance_cli.specs.Creates.{RefusesForm, IsUnbuilt, IsLimited}
 use Rattle.lan_read.specs.Reasons.{Stands}
-use Rattle.lance_cli.specs.Replies.{asked_of, lines_for}
-use Rattle.lan_rows.specs.Lines.{rows_of}
+use Rattle.lance_cli.specs.Replies.{asked_of}
 use Rattle.lan_read.specs.Standing.{StandsAt}
 use Rattle.lan_manifest.specs.Versions.{IsNewest, NoneListed}
 use Rattle.lance_cli.specs.declared.fault.Fault.{Fault}
@@ -45,11 +41,18 @@ abbrev pub AlreadyThere : Entry → ℕ → Type 0
 AlreadyThere e version = ((json : List ℕ) × (asked_of e.words ≡ Some (create json))) × ForSome e.objects (λ all. IsNewest all version)
 
 abbrev pub NotBuilt : Entry → Type 0
-NotBuilt e = (json : List ℕ) × (asked_of e.words ≡ Some (create json)) × (column_name json ≡ None)
+NotBuilt e = (json : List ℕ) × (asked_of e.words ≡ Some (create json)) × IsUnbuilt json
+
+-- the text of a new dataset's schema is none
+abbrev pub BadSchema : Entry → Fault → Type 0
+BadSchema e f = (json : List ℕ) × (asked_of e.words ≡ Some (create json)) × RefusesForm json f
+
+-- a line of the input is no row of the newest version
+abbrev pub BadLine : Entry → Fault → Type 0
+BadLine e f = (asked_of e.words ≡ Some append) × ForSome e.objects (λ all. ForSome e.input (λ input. RefusesLine all input f))
 
 abbrev pub BadInput : Entry → ℕ → List ℕ → Type 0
-BadInput e line why = (asked_of e.words ≡ Some append) × (why ≡ codes "bad row")
-    × ForSome e.objects (λ all. ForSome e.input (λ input. (m : PlainManifest) × NewestManifest all m × (rows_of (map unnumbered m.fields) (lines_for append input) ≡ Err line)))
+BadInput e line why = BadSchema e (fault.BadInput line why) ⊎ BadLine e (fault.BadInput line why)
 
 -- the command reads input, and there is too much of it
 abbrev pub IsLong : Asked → List ℕ → Type 0
@@ -59,9 +62,16 @@ IsLong asked input = ⊥
 abbrev pub InputTooLong : Entry → Type 0
 InputTooLong e = (asked : Asked) × (asked_of e.words ≡ Some asked) × ForSome e.input (IsLong asked)
 
+-- a new dataset reaches the limit
+abbrev pub FirstLimit : Entry → Which → ℕ → Type 0
+FirstLimit e which number = (json : List ℕ) × (asked_of e.words ≡ Some (create json)) × IsLimited json which number × ForSome e.objects NoneListed
+
+-- an append of the input's rows reaches it
+abbrev pub AppendLimit : Entry → Which → ℕ → Type 0
+AppendLimit e which number = (asked_of e.words ≡ Some append) × ForSome e.objects (λ all. ForSome e.input (λ input. ReachesLimit all input which number))
+
 abbrev pub Limit : Entry → Which → ℕ → Type 0
-Limit e which number = (asked_of e.words ≡ Some append)
-    × ForSome e.objects (λ all. ForSome e.input (λ input. (m : PlainManifest) × (rows : List (List PlainValue)) × NewestManifest all m × (rows_of (map unnumbered m.fields) (lines_for append input) ≡ Ok rows) × (limit_of all m rows ≡ Some (which, number))))
+Limit e which number = FirstLimit e which number ⊎ AppendLimit e which number
 
 -- the version that is read is listed, and doesn't stand, and the reason stands
 abbrev pub Outside : Entry → Name → Reason → ℕ → Type 0

@@ -1,5 +1,5 @@
 -- What a run does to the tables, said of the objects and the sink.
-use Rattle.std.specs.Prelude.{◌≡◌, ℕ, ◌⊎◌, ◌^◌, ◌<◌, ◌≤◌, ⊤, cond, nat_lt, List, [], ◌++◌, length, take, map, codes, Option, Some, Result, Ok, Err, OnOk}
+use Rattle.std.specs.Prelude.{◌≡◌, ℕ, ◌⊎◌, ◌^◌, ◌<◌, ◌≤◌, ⊤, cond, nat_lt, List, [], ◌++◌, length, take, map, Option, Some, Result, Ok, Err, OnOk}
 use Rattle.std.specs.Option.{ForSome}
 use Rattle.lan_model.specs.Dataset.{Dataset}
 use Rattle.lan_model.specs.Table.{Table}
@@ -9,10 +9,12 @@ use Rattle.lan_store.specs.declared.name.Object.{Object}
 use Rattle.lan_model.specs.Plain.{PlainValue, unnumbered}
 use Rattle.lan_manifest.specs.Manifests.{PlainManifest}
 use Rattle.lan_rows.specs.Lines.{rows_of}
+use Rattle.lan_rows.specs.declared.lines.LinesFault.{LinesFault}
 use Rattle.lan_read.specs.Newest.{NewestManifest}
 use Rattle.lan_commit.specs.Puts.{limit_of}
 use Rattle.lance_cli.specs.Causes.{Entry, heard, IsLong}
 use Rattle.lance_cli.specs.Commands.{Asked, append, scan}
+use Rattle.lance_cli.specs.Faults.{of_lines}
 use Rattle.lance_cli.specs.Puts.{Puts, Shows}
 use Rattle.lance_cli.specs.Replies.{Told, Outcome, refused, done, reply, Tells, asked_of, lines_for}
 use Rattle.lan_read.specs.Standing.{StandsAt, Agrees}
@@ -71,7 +73,7 @@ Decided e Fails result = (Fails → ⊥) → OnReply e (λ old input d told outc
 
 -- a refusal that the input's lines and the newest version's manifest decide, whether or not its data stands
 abbrev pub RefusedBy : List Object → List ℕ → PlainManifest → Fault → Type 0
-RefusedBy old input m (fault.BadInput line why) = (why ≡ codes "bad row") × (rows_of (map unnumbered m.fields) (lines_for append input) ≡ Err line)
+RefusedBy old input m (fault.BadInput line words) = (why : LinesFault) × (rows_of (map unnumbered m.fields) (lines_for append input) ≡ Err why) × (fault.BadInput line words ≡ of_lines why)
 RefusedBy old input m (fault.Limit which number) = (rows : List (List PlainValue)) × (rows_of (map unnumbered m.fields) (lines_for append input) ≡ Ok rows) × (limit_of old m rows ≡ Some (which, number))
 RefusedBy old input m f = ⊥
 

@@ -6,6 +6,12 @@ use Rattle.lance_cli.specs.declared.fault.Fault.{Fault}
 use Rattle.lance_cli.specs.declared.fault.Fault.TheVariants as fault
 use Rattle.lan_file.specs.declared.fault.FileReason.{FileReason}
 use Rattle.lan_file.specs.declared.fault.FileReason.TheVariants as file
+use Rattle.lan_form.specs.Why.{why}
+use Rattle.lan_form.specs.declared.faults.FormFault.{FormFault}
+use Rattle.lan_form.specs.declared.faults.FormFault.TheVariants as form
+use Rattle.lan_rows.specs.Why.{why_line}
+use Rattle.lan_rows.specs.declared.lines.LinesFault.{LinesFault}
+use Rattle.lan_rows.specs.declared.lines.LinesFault.TheVariants as lines
 use Rattle.lan_read.specs.declared.fault.ReadFault.{ReadFault}
 use Rattle.lan_read.specs.declared.fault.ReadFault.TheVariants as unread
 use Rattle.lan_commit.specs.declared.committing.CommitFault.{CommitFault}
@@ -108,6 +114,16 @@ of_commit (unmade.Limit which number) = fault.Limit which number
 of_commit (unmade.Raced name) = fault.Raced name
 of_commit (unmade.Store name) = fault.StoreFault name
 of_commit unmade.Memory = fault.Memory
+
+-- a text that is no schema, and lines that are no rows, as the program's own
+abbrev pub of_form : FormFault → Fault
+of_form form.Memory = fault.Memory
+of_form f = fault.BadInput 0 (why f)
+
+abbrev pub of_lines : LinesFault → Fault
+of_lines (lines.Bad number f) = fault.BadInput number (why_line (lines.Bad number f))
+of_lines (lines.LineTooLong number) = fault.BadInput number (why_line (lines.LineTooLong number))
+of_lines lines.Memory = fault.Memory
 
 abbrev pub of_scan : ScanFault → Fault
 of_scan (unscanned.Outside name why place) = fault.Outside name (reason.File why) place

@@ -9,5 +9,6 @@ pub mod Puts
 pub mod Replies
 pub mod Reports
 pub mod ScansNewest
+pub mod Schemas
 pub mod Served
 pub mod Stage

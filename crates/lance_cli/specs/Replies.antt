@@ -1,17 +1,19 @@
 -- Commands as they are told, and what is replied to them: a fold over tables alone.
 use Rattle.std.specs.Prelude.{◌≡◌, ℕ, List, [], ◌∷◌, ◌++◌, flat_map, cond, codes, Option, Some, None, unwrap_or, option_map, option_and_then, Result, Ok, Err}
 use Rattle.lan_model.specs.Plain.{PlainValue}
-use Rattle.lan_model.specs.Table.{Table}
+use Rattle.lan_model.specs.Table.{Column, Table}
 use Rattle.lan_model.specs.Dataset.{Dataset, newest, table_at}
 use Rattle.lan_model.specs.After as change
 use Rattle.lan_model.specs.After.{after, Command, Refusal}
-use Rattle.lan_commit.specs.First.{int64_column}
-use Rattle.lance_cli.specs.Commands.{Asked, create, append, scan, in_words, column_name}
-use Rattle.lance_cli.specs.Faults.{fault_text}
-use Rattle.lance_cli.specs.Reports.{version_text}
+use Rattle.lan_form.specs.Form.{form}
+use Rattle.lan_form.specs.Judged.{Judged}
+use Rattle.lan_rows.specs.Line.{line_of}
 use Rattle.lan_rows.specs.Lines.{rows_of, cut}
-use Rattle.lan_rows.specs.Rows.{line_of}
-use Rattle.lance_cli.specs.Stage.{is_taken}
+use Rattle.lan_rows.specs.declared.lines.LinesFault.{LinesFault}
+use Rattle.lance_cli.specs.Commands.{Asked, create, append, scan, schema, in_words}
+use Rattle.lance_cli.specs.Faults.{fault_text, of_form, of_lines}
+use Rattle.lance_cli.specs.Reports.{version_text, schema_text}
+use Rattle.lance_cli.specs.Stage.{is_taken, is_built}
 use Rattle.lance_cli.specs.declared.fault.Fault.{Fault}
 use Rattle.lance_cli.specs.declared.fault.Fault.TheVariants as fault
 use Rattle.lan_commit.specs.declared.limits.Which.{Which}
@@ -55,13 +57,13 @@ changed_to shown (Err refusal) = refused (fault_of refusal)
 abbrev pub change_reply : Dataset → Shown → Command → Option Outcome
 change_reply d shown command = option_map (changed_to shown) (after d command)
 
-abbrev pub create_reply : Dataset → Shown → Option (List ℕ) → Option Outcome
-create_reply d shown None = Some (refused fault.NotBuilt)
-create_reply d shown (Some name) = change_reply d shown (change.create (int64_column name ∷ []))
+abbrev pub create_reply : Dataset → Shown → Judged (List Column) → Option Outcome
+create_reply d shown (Ok columns) = cond (is_built columns) (change_reply d shown (change.create columns)) (Some (refused fault.NotBuilt))
+create_reply d shown (Err f) = Some (refused (of_form f))
 
-abbrev pub append_reply : Dataset → Shown → Result (List (List PlainValue)) ℕ → Option Outcome
+abbrev pub append_reply : Dataset → Shown → Result (List (List PlainValue)) LinesFault → Option Outcome
 append_reply d shown (Ok rows) = change_reply d shown (change.append rows)
-append_reply d shown (Err line) = Some (refused (fault.BadInput line (codes "bad row")))
+append_reply d shown (Err f) = Some (refused (of_lines f))
 
 -- what reads the newest version: a refusal where none is listed, and nothing where it doesn't stand
 abbrev pub on_version : Dataset → (Table → Option Outcome) → Option ℕ → Option Outcome
@@ -69,9 +71,10 @@ on_version d read None = Some (refused fault.NoDataset)
 on_version d read (Some version) = option_and_then read (table_at d version)
 
 abbrev pub answer : Dataset → Told → Asked → Option Outcome
-answer d told (create json) = create_reply d told.shown (column_name json)
+answer d told (create json) = create_reply d told.shown (form json)
 answer d told append = on_version d (λ t. append_reply d told.shown (rows_of t.columns told.lines)) (newest d)
 answer d told scan = on_version d (λ t. Some (done (flat_map (line_of t.columns) t.rows) d)) (newest d)
+answer d told schema = on_version d (λ t. Some (done (schema_text t.columns) d)) (newest d)
 
 -- the reply to one command; `None` where it reads a version that is listed and doesn't stand
 abbrev pub reply : Dataset → Told → Option Outcome

@@ -2,9 +2,10 @@
 use Rattle.std.specs.Prelude.{◌≡◌, Option, Some, None, Result, Err}
 use Rattle.lance_cli.specs.Appends.{AppendServed}
 use Rattle.lance_cli.specs.Changes.{Change}
-use Rattle.lance_cli.specs.Commands.{Asked, create, append, scan}
+use Rattle.lance_cli.specs.Commands.{Asked, create, append, scan, schema}
 use Rattle.lance_cli.specs.Creates.{CreateServed}
 use Rattle.lance_cli.specs.ScansNewest.{ScanServed}
+use Rattle.lance_cli.specs.Schemas.{SchemaServed}
 use Rattle.lance_cli.specs.declared.fault.Fault.{Fault}
 use Rattle.lance_cli.specs.declared.fault.Fault.TheVariants.{Usage}
 
@@ -24,3 +25,4 @@ Served None change result = Refuses change Usage result
 Served (Some (create json)) change result = Untaken change (CreateServed json change.before change.now change.held change.holds result)
 Served (Some append) change result = AppendServed change result
 Served (Some scan) change result = Untaken change (ScanServed change.before change.now change.held change.holds result)
+Served (Some schema) change result = Untaken change (SchemaServed change.before change.now change.held change.holds result)

@@ -9,12 +9,12 @@ ghost use Rattle.lan_store.specs.declared.name.Name.{Name};
 ghost use Rattle.lan_store.specs.Causes.{HasCause};
 ghost use Rattle.lance_cli.specs.Appends.{ReadsInput, RowsAre, Prepares, AppendServed};
 
-use crate::fault::Fault;
+use crate::fault::{Fault, of_lines};
 use crate::reply::{print_reply, version_line};
 use lan_commit::{commit, prepare_append};
-use lan_model::{FieldList, Rows, Text};
+use lan_model::{FieldList, Rows};
 use lan_read::open_newest;
-use lan_rows::{LinesFault, read_rows};
+use lan_rows::read_rows;
 use lan_store::{Object, ReadAllFault, Sink, Source, Store, read_all};
 use std::alloc::Global;
 
@@ -85,7 +85,6 @@ fn rows_in(alloc: Global, fields: &FieldList, text: Vec<u8>) -> Result<Rows, Fau
 {
     match read_rows(alloc, fields, &text) {
         Ok(rows) => Ok(rows),
-        Err(LinesFault::Bad(line)) => Err(Fault::BadInput(line, Text::of(alloc, "bad row")?)),
-        Err(LinesFault::Memory) => Err(Fault::Memory),
+        Err(fault) => Err(of_lines(alloc, &fault)?),
     }
 }

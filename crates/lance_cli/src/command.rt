@@ -14,6 +14,8 @@ pub enum Asked<'a> {
     Append,
     /// The rows of the newest version.
     Scan,
+    /// The fields of the newest version.
+    Schema,
 }
 
 /// The command that the words ask for, where they obey the rule of words.
@@ -25,6 +27,7 @@ pub fn asked_of(words: &Words) -> Option<Asked<'_>>
         "create" => one_word(own).map(Asked::Create),
         "append" => no_word(Asked::Append, own),
         "scan" => no_word(Asked::Scan, own),
+        "schema" => no_word(Asked::Schema, own),
         _ => None,
     }
 }

@@ -1,14 +1,16 @@
 // Why a command is refused, and the status that the program then ends with.
-ghost use Rattle.std.specs.Prelude.{◌≡◌};
-ghost use Rattle.lance_cli.specs.Faults.{status_of, of_read, of_commit, of_scan};
+ghost use Rattle.std.specs.Prelude.{◌≡◌, IfOk};
+ghost use Rattle.lance_cli.specs.Faults.{status_of, of_read, of_commit, of_form, of_lines, of_scan};
 ghost use Rattle.lance_cli.specs.declared.fault.Fault.TheVariants.{Memory};
 
 use lan_commit::{CommitFault, Which};
+use lan_form::FormFault;
 use lan_model::Text;
 use lan_read::{ReadFault, Reason};
+use lan_rows::{LinesFault, why_line};
 use lan_scan::ScanFault;
 use lan_store::Name;
-use std::alloc::AllocError;
+use std::alloc::{AllocError, Global};
 use thiserror::Error;
 
 /// Why a command is refused.
@@ -67,7 +69,7 @@ pub enum Fault {
     WriteFault,
     #[error("Memory")]
     Memory,
-    /// The schema is none that the program takes yet.
+    /// The schema is one that the program doesn't take yet.
     #[error("NotBuilt")]
     NotBuilt,
 }
@@ -119,6 +121,28 @@ impl From<ScanFault> for Fault {
             ScanFault::Write => Fault::WriteFault,
             ScanFault::Memory => Fault::Memory,
         }
+    }
+}
+
+/// Why a text is no schema, as a refusal of line 0.
+pub fn of_form(alloc: Global, fault: &FormFault) -> Result<Fault, AllocError>
+    ensures { IfOk result (λ f. f ≡ of_form fault.now) }
+{
+    match fault {
+        FormFault::Memory => Ok(Fault::Memory),
+        _ => Ok(Fault::BadInput(0, lan_form::why(alloc, fault)?)),
+    }
+}
+
+/// Why lines are no rows, as a refusal of the first that is none.
+pub fn of_lines(alloc: Global, fault: &LinesFault) -> Result<Fault, AllocError>
+    ensures { IfOk result (λ f. f ≡ of_lines fault.now) }
+{
+    match fault {
+        LinesFault::Bad(line, _) | LinesFault::LineTooLong(line) => {
+            Ok(Fault::BadInput(*line, why_line(alloc, fault)?))
+        }
+        LinesFault::Memory => Ok(Fault::Memory),
     }
 }
 

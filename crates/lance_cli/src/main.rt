@@ -3,6 +3,7 @@
 
 mod append;
 mod command;
+mod create;
 mod fault;
 mod fault_text;
 mod folder;
@@ -32,6 +33,7 @@ commands
   create JSON   make a dataset of the fields that the JSON names, as version 1
   append        add the rows of standard input, one JSON object a line, as the next version
   scan          print the rows of the newest version, one JSON object a line
+  schema        print the fields of the newest version in JSON
 
 examples
   lance_cli people create '[{\"name\":\"x\",\"nullable\":false,\"type\":\"int64\"}]'

@@ -5,19 +5,16 @@ ghost use Rattle.lan_store.specs.declared.name.Name.{Name};
 ghost use Rattle.lan_store.specs.Causes.{HasCause};
 ghost use Rattle.lance_cli.specs.Causes.{Cause};
 ghost use Rattle.lance_cli.specs.Clauses.{Kept, Done, Decided, Refused, Moments, Fails, Leaves, Prints, TakenBy};
-ghost use Rattle.lance_cli.specs.Commands.{create as asks_create};
 ghost use Rattle.lance_cli.specs.Replies.{asked_of};
-ghost use Rattle.lance_cli.specs.Creates.{CreateServed};
 ghost use Rattle.lance_cli.specs.Served.{Served};
 
 use crate::append::serve_append;
 use crate::command::{Asked, asked_of};
+use crate::create::serve_create;
 use crate::fault::Fault;
-use crate::reply::{print_reply, version_line};
 use crate::scan::serve_scan;
-use crate::schema::column_of;
-use lan_commit::{CommitFault, create};
-use lan_model::{Text, Words};
+use crate::schema::serve_schema;
+use lan_model::Words;
 use lan_store::{Sink, Source, Store};
 use std::alloc::Global;
 
@@ -82,34 +79,7 @@ fn serve<S: Store, I: Source, O: Sink>(
         Some(Asked::Create(json)) => serve_create(alloc, json, store, out),
         Some(Asked::Append) => serve_append(alloc, store, input, out),
         Some(Asked::Scan) => serve_scan(alloc, store, out),
+        Some(Asked::Schema) => serve_schema(alloc, store, out),
         None => Err(Fault::Usage),
     }
-}
-
-fn serve_create<S: Store, O: Sink>(
-    alloc: Global,
-    json: &str,
-    store: &mut S,
-    out: &mut O,
-) -> Result<(), Fault>
-    ensures served { CreateServed json.now (S.objects store.old) (S.objects store.new) (O.held out.old) (O.held out.new) result }
-    ensures store_cause { HasCause ((name : Name) × IsErrOf result (Fault.StoreFault name)) (S.faults store.old) (S.faults store.new) }
-    ensures store_name { (name : Name) → IsErrOf result (Fault.StoreFault name) → ForSome (S.objects store.old) (λ _. S.failed store.new ≡ Some name) }
-    ensures raced_cause { HasCause ((name : Name) × IsErrOf result (Fault.Raced name)) (S.clashes store.old) (S.clashes store.new) }
-    ensures write_cause { HasCause (IsErrOf result Fault.WriteFault) (O.faults out.old) (O.faults out.new) }
-{
-    let Some(column) = column_of(alloc, json)? else {
-        return Err(Fault::NotBuilt);
-    };
-    // The reply is made before anything is put, so that want of memory can't follow the effect.
-    let reply = version_line(alloc, 1)?;
-    match create(alloc, store, column.as_str()) {
-        Ok(_) => {}
-        Err(CommitFault::AlreadyThere(version)) => return Err(Fault::AlreadyThere(version)),
-        Err(CommitFault::Limit(which, number)) => return Err(Fault::Limit(which, number)),
-        Err(CommitFault::Raced(name)) => return Err(Fault::Raced(name)),
-        Err(CommitFault::Store(name)) => return Err(Fault::StoreFault(name)),
-        Err(CommitFault::Memory) => return Err(Fault::Memory),
-    }
-    print_reply(out, reply.as_bytes())
 }

@@ -1,84 +1,41 @@
-// The schema of a new dataset, in its JSON form.
-ghost use Rattle.std.specs.Prelude.{◌≡◌, IfOk, option_map, option_and_then};
-ghost use Rattle.serde_json.specs.View.{view};
-ghost use Rattle.lan_rows.specs.Members.{members_in};
-ghost use Rattle.lance_cli.specs.Commands.{text_at, flag_at, column_in, only_item, column_name};
+// The fields of the newest version, in their JSON form.
+ghost use Rattle.std.specs.Prelude.{◌≡◌, ◌≤◌, ℕ, Some, map, IsErrOf, IfOk};
+ghost use Rattle.std.specs.Option.{ForSome};
+ghost use Rattle.lan_model.specs.PlainTable.{column_of};
+ghost use Rattle.lan_store.specs.declared.name.Name.{Name};
+ghost use Rattle.lan_store.specs.Causes.{HasCause};
+ghost use Rattle.lance_cli.specs.Reports.{schema_text};
+ghost use Rattle.lance_cli.specs.Schemas.{SchemaServed};
 
-use lan_model::Text;
-use serde_json::Value;
+use crate::fault::Fault;
+use crate::reply::print_reply;
+use lan_form::to_json;
+use lan_model::{FieldList, Text};
+use lan_read::open_newest;
+use lan_store::{Name, Sink, Store};
 use std::alloc::{AllocError, Global};
 
-const MAX_NAME: usize = 65536;
-
-/// The name of the one column of a schema; `None` where the program doesn't take the schema.
-#[tactic(auto, unfolding(crate::specs::Commands::column_name))]
-pub fn column_of(alloc: Global, json: &str) -> Result<Option<Text>, AllocError>
-    ensures { IfOk result (λ name. name ≡ column_name json.now) }
+/// Prints the schema of the newest version on a line.
+pub fn serve_schema<S: Store, O: Sink>(
+    alloc: Global,
+    store: &mut S,
+    out: &mut O,
+) -> Result<(), Fault>
+    ensures served { SchemaServed (S.objects store.old) (S.objects store.new) (O.held out.old) (O.held out.new) result }
+    ensures store_cause { HasCause ((name : Name) × IsErrOf result (Fault.StoreFault name)) (S.faults store.old) (S.faults store.new) }
+    ensures store_name { (name : Name) → IsErrOf result (Fault.StoreFault name) → ForSome (S.objects store.old) (λ _. S.failed store.new ≡ Some name) }
+    ensures clashes { S.clashes store.old ≤ S.clashes store.new }
+    ensures write_cause { HasCause (IsErrOf result Fault.WriteFault) (O.faults out.old) (O.faults out.new) }
 {
-    match Value::from_str(alloc, json) {
-        Ok(schema) => copied(alloc, column_of_schema(&schema)),
-        Err(error) if error.is_memory() => Err(AllocError),
-        Err(_) => Ok(None),
-    }
+    let manifest = open_newest(alloc, store)?;
+    let line = schema_line(alloc, &manifest.fields)?;
+    print_reply(out, line.as_str().as_bytes())
 }
 
-fn copied(alloc: Global, name: Option<&str>) -> Result<Option<Text>, AllocError>
-    ensures { IfOk result (λ copy. copy ≡ option_map (λ n. n.now) name.entry) }
+fn schema_line(alloc: Global, fields: &FieldList) -> Result<Text, AllocError>
+    ensures { IfOk result (λ line. line ≡ schema_text (map column_of fields.now)) }
 {
-    match name {
-        Some(name) => Ok(Some(Text::of(alloc, name)?)),
-        None => Ok(None),
-    }
-}
-
-fn column_of_schema(schema: &Value) -> Option<&str>
-    ensures { option_map (λ n. n.now) result ≡ option_and_then column_in (only_item (view schema.now)) }
-{
-    column_name_in(only_item(schema)?)
-}
-
-fn only_item(schema: &Value) -> Option<&Value>
-    ensures { option_map (λ v. view v.now) result ≡ only_item (view schema.now) }
-{
-    let columns = schema.as_array()?;
-    if columns.len() != 1 {
-        return None;
-    }
-    columns.first()
-}
-
-fn column_name_in(column: &Value) -> Option<&str>
-    ensures { option_map (λ n. n.now) result ≡ column_in (view column.now) }
-{
-    if members_in(column) != 3 {
-        return None;
-    }
-    let name = text_at(column, "name")?;
-    let nullable = flag_at(column, "nullable")?;
-    let kind = text_at(column, "type")?;
-    if nullable || kind != "int64" || name.is_empty() || name.len() > MAX_NAME {
-        return None;
-    }
-    Some(name)
-}
-
-fn members_in(value: &Value) -> usize
-    ensures { result ≡ members_in (view value.now) }
-{
-    match value.as_object() {
-        Some(members) => members.len(),
-        None => 0,
-    }
-}
-
-fn text_at<'a>(value: &'a Value, key: &str) -> Option<&'a str>
-    ensures { option_map (λ t. t.now) result ≡ text_at key.now (view value.now) }
-{
-    value.get(key)?.as_str()
-}
-
-fn flag_at(value: &Value, key: &str) -> Option<bool>
-    ensures { result ≡ flag_at key.now (view value.now) }
-{
-    value.get(key)?.as_bool()
+    let mut line = to_json(alloc, fields)?;
+    line.push("\n")?;
+    Ok(line)
 }

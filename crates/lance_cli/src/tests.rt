@@ -100,10 +100,21 @@ fn commands_one_after_another(rt: HostRuntime) -> Result<(), Fail> {
         ("create", "", 6, "dataset is there at version 1"),
         ("scan", "", 0, ""),
         ("append", "{\"x\":7}\n", 0, "version 2\n"),
-        ("append", "{\"x\":1}\n{\"x\":\"a\"}\n", 3, "line 2: bad row"),
+        (
+            "append",
+            "{\"x\":1}\n{\"x\":\"a\"}\n",
+            3,
+            "line 2: wrong kind in \"x\"",
+        ),
         ("append", "", 0, "version 3\n"),
         ("append", "{\"x\":-1}\n{\"x\":8}", 0, "version 4\n"),
         ("scan", "", 0, "{\"x\":7}\n{\"x\":-1}\n{\"x\":8}\n"),
+        (
+            "schema",
+            "",
+            0,
+            "[{\"name\":\"x\",\"nullable\":false,\"type\":\"int64\"}]\n",
+        ),
     ] {
         let (got, words) = told(alloc, command, input, &mut store)?;
         assert_eq!(rt; got, status, "{command}");

@@ -1,23 +1,32 @@
-use Rattle.std.proofs.Common.{sym, subst, ◌∙◌, ap, ◌*◌, List, [], ◌∷◌, length, map, length-append, arith}
-use Rattle.lan_bytes.specs.Placed.{Placed}
-use Rattle.std.specs.Int.{w64}
-use Rattle.lan_bytes.specs.Numbers.{number_at}
-use Rattle.lan_model.specs.declared.tree.Val.{Val}
-use Rattle.lan_model.specs.PlainTable.{row_of}
-use Rattle.lan_model.specs.Table.{FitsRow}
+use Rattle.std.proofs.Common.{◌≡◌, sym, subst, ◌∙◌, ap, List, ℕ, [], ◌∷◌, ◌++◌, length, map, length-append, arith}
 use Rattle.std.specs.Prelude.{All}
-use Rattle.lan_file.specs.Texts.{page_bytes}
-use Rattle.lan_file.proofs.Rows.{page_more, fit_more}
+use Rattle.std.proofs.lemmas.List.{take-append-drop}
+use Rattle.lan_model.specs.declared.tree.Val.{Val}
+use Rattle.lan_model.specs.Plain.{plain_type, plain_value}
+use Rattle.lan_model.specs.PlainTable.{row_of}
+use Rattle.lan_file.specs.Stating.{StandAll, FitsOne}
+use Rattle.lan_file.specs.Widths.{type_size}
+use Rattle.lan_file.proofs.Rows.{row_more, fit_more}
 use Rattle.lan_file.proofs.page.rows_in.Goals as goal
 
-pub loop-i-preserved : goal.loop-i-preserved
-loop-i-preserved c =
+pub loop-preserved : goal.loop-preserved
+loop-preserved c =
+    let ty = plain_type c.args.ty.now in
+    let page = c.args.page.now in
+    let before = c.loop.rows in
+    let row = c.in_ok-row_of_value.field-0 in
+    let v = plain_value c.in_ok-value_in.field-0 in
+    let bytes = c.split_at.result.0.now in
+    let next = c.split_at.result.1.now in
     let pushed = c.in_ok-push.ensures.ok in
-    let number = c.u64_in.ensures ∙ ap (λ (p : Placed). number_at w64 p.bytes (8 * c.loop-i.i)) c.new-view.ensures in
+    let parts : c.loop.rest.now ≡ bytes ++ next = cc (take-append-drop c.type_size-size.result c.loop.rest.now, c.split_at.ensures.front, c.split_at.ensures.back) in
+    let long : length bytes ≡ type_size ty = c.split_at.ensures.front_len ∙ c.type_size-size.ensures in
+    let S : List ℕ → Type 0 = λ l. StandAll ty page (map row_of before) l in
+    let P : List (List Val) → Type 0 = λ rows. StandAll ty page (map row_of rows) next in
+    let Q : List (List Val) → Type 0 = λ rows. All (FitsOne ty) (map row_of rows) in
     record {
-      count = ap length pushed ∙ omega (arith, length-append c.loop-i.rows (c.in_ok-row_of_value.field-0 ∷ []), c.loop-i.invariant.count);
-      spelled = ap (λ (l : List (List Val)). page_bytes (map row_of l)) pushed ∙ page_more c.args.page.now c.loop-i.rows c.in_ok-row_of_value.field-0 c.loop-i.i c.u64_in.result (λ k. omega (arith, c.type_inv.page k)) (omega (arith, c.loop-i-test.true)) number c.in_ok-row_of_value.ensures c.loop-i.invariant.spelled;
-      fit = λ f is.
-          let P : List (List Val) → Type 0 = λ l. All (FitsRow (f ∷ [])) (map row_of l) in
-          subst P (sym pushed) (fit_more f c.loop-i.rows c.in_ok-row_of_value.field-0 c.u64_in.result is (omega (arith, c.u64_in.type_inv)) c.in_ok-row_of_value.ensures (c.loop-i.invariant.fit f is));
+      count = ap length pushed ∙ omega (arith, length-append before (row ∷ []), c.loop.invariant.count);
+      left = omega (arith, c.loop.invariant.left, ap length parts, length-append bytes next, long);
+      values = subst P (sym pushed) (row_more ty page before row v bytes next c.requires.fixed long c.in_ok-row_of_value.ensures c.in_ok-value_in.ensures (subst S parts c.loop.invariant.values));
+      fit = subst Q (sym pushed) (fit_more ty before row v c.in_ok-row_of_value.ensures c.in_ok-value_in.ensures.fits c.loop.invariant.fit);
     }

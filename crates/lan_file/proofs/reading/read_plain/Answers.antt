@@ -1,12 +1,15 @@
-use Rattle.std.proofs.Common.{◌≡◌, ◌∙◌, ap, ◌+◌, ◌*◌, ◌≤◌, [], ◌∷◌, length}
+use Rattle.std.proofs.Common.{◌≡◌, sym, ◌∙◌, ap, subst, ℕ, ◌+◌, ◌*◌, ◌≤◌, [], ◌∷◌, length, map}
 use Rattle.std.proofs.lemmas.Result.{err_from_is_err_and}
-use Rattle.lan_model.specs.Plain.{plain_field}
+use Rattle.lan_model.specs.Plain.{PlainType, plain_field}
+use Rattle.lan_model.specs.PlainTable.{row_of}
 use Rattle.lan_store.specs.Objects.{object}
 use Rattle.lan_file.specs.declared.fault.FileReason.TheVariants.{Rows}
 use Rattle.lan_file.specs.Opening.{StatesRows}
 use Rattle.lan_file.specs.Parts.{part}
 use Rattle.lan_file.specs.Reasons.{StandsIn, GivesRows}
+use Rattle.lan_file.specs.Stating.{IsPage}
 use Rattle.lan_file.proofs.Held.{one, both, part_breaks}
+use Rattle.lan_file.proofs.Pages.{type_is}
 use Rattle.lan_file.proofs.Plainly.{other_rows, page_within, gives}
 use Rattle.lan_file.proofs.reading.read_plain.Goals as goal
 
@@ -25,15 +28,19 @@ returns-in_err-page-clause-answer g c = λ all told.
     let p = err_from_is_err_and c.from_residual-in_err-page.result c.from_residual-in_err-page.ensures.1 in
     let fields = plain_field c.args.field.now ∷ [] in
     let stated = c.in_ok-stated.stated in
+    let size = ap (λ (n : ℕ). n * c.args.rows) c.column_size.ensures.value in
     let held = object all c.args.name.now in
-    let within = one held (λ bytes. StatesRows fields bytes stated) (λ bytes. 0 + 8 * c.args.rows ≤ length bytes) (c.in_ok-stated.ensures.answer all told c.args.rows) (λ bytes s. page_within fields bytes stated c.args.rows s c.if-stated-rows.false) in
-    rw (p.1, p.2) (part_breaks fields c.args.rows held 0 (8 * c.args.rows) c.in_err-page.field-0.0 within (c.in_err-page.ensures.answer all (c.read_stated.ensures.asked.kept ∙ told)))
+    let within = one held (λ bytes. StatesRows fields bytes stated) (λ bytes. 0 + c.column_size.result * c.args.rows ≤ length bytes) (c.in_ok-stated.ensures.answer all told c.args.rows) (λ bytes s. page_within fields bytes stated c.args.rows (c.column_size.result * c.args.rows) s c.if-stated-rows.false size) in
+    rw (p.1, p.2) (part_breaks fields c.args.rows held 0 (c.column_size.result * c.args.rows) c.in_err-page.field-0.0 within (c.in_err-page.ensures.answer all (c.read_stated.ensures.asked.kept ∙ told)))
 
 pub returns-clause-answer : goal.returns-clause-answer
 returns-clause-answer g c = λ all told.
     let fields = plain_field c.args.field.now ∷ [] in
     let stated = c.in_ok-stated.stated in
     let page = c.in_ok-page.page in
-    both (object all c.args.name.now) (λ bytes. StatesRows fields bytes stated) (λ bytes. (0 + 8 * c.args.rows ≤ length bytes) × (page ≡ part bytes 0 (8 * c.args.rows))) (λ bytes. GivesRows fields c.args.rows bytes c.in_ok-found.found)
+    let size = ap (λ (n : ℕ). n * c.args.rows) c.column_size.ensures.value in
+    let P : PlainType ℕ → Type 0 = λ ty. IsPage ty c.as_slice.result.now (map row_of c.in_ok-found.found) in
+    both (object all c.args.name.now) (λ bytes. StatesRows fields bytes stated) (λ bytes. (0 + c.column_size.result * c.args.rows ≤ length bytes) × (page ≡ part bytes 0 (c.column_size.result * c.args.rows))) (λ bytes. GivesRows fields c.args.rows bytes c.in_ok-found.found)
     (c.in_ok-stated.ensures.answer all told c.args.rows) (c.in_ok-page.ensures.answer all (c.read_stated.ensures.asked.kept ∙ told))
-    (λ bytes s found. gives (plain_field c.args.field.now) bytes c.as_slice.result.now stated c.args.rows c.in_ok-found.found c.requires s c.if-stated-rows.false (c.as_slice.ensures ∙ found.1) (ap length c.as_slice.ensures ∙ c.in_ok-page.ensures.length) c.in_ok-found.ensures)
+    (λ bytes s found. gives (plain_field c.args.field.now) bytes c.as_slice.result.now stated c.args.rows c.in_ok-found.found c.requires s c.if-stated-rows.false (c.as_slice.ensures ∙ found.1 ∙ ap (part bytes 0) size) (ap length c.as_slice.ensures ∙ c.in_ok-page.ensures.length ∙ size)
+    (subst P (sym (type_is c.args.field.now)) c.in_ok-found.ensures))

@@ -1,5 +1,17 @@
-use Rattle.lan_rows.proofs.Fitting.{answer_fits}
+use Rattle.std.proofs.Common.{inl, inr, ap, ◌∙◌}
+use Rattle.std.specs.Result.{result_err}
+use Rattle.std.proofs.lemmas.Result.{IfOk-weaker, IfErr-weaker}
+use Rattle.lan_rows.proofs.Unnumbered.{columns_row}
 use Rattle.lan_rows.proofs.reading.read_row.Goals as goal
 
-pub returns-in-Ok-Some-clause-fit : goal.returns-in-Ok-Some-clause-fit
-returns-in-Ok-Some-clause-fit c = answer_fits c.args.fields.now c.in-Some.name.now c.one_number.result c.in-Some.ensures c.one_number.ensures.bits
+pub returns-clause-ok : goal.returns-clause-ok
+returns-clause-ok c =
+    let same = columns_row c.args.fields.now c.args.line.now in
+    let ok = rw c.as_slice.ensures at c.read_fields.ensures.ok in
+    IfOk-weaker c.read_fields.result _ _ (λ row is. same ∙ is) ok
+
+pub returns-clause-err : goal.returns-clause-err
+returns-clause-err c =
+    let same = columns_row c.args.fields.now c.args.line.now in
+    let err = rw c.as_slice.ensures at c.read_fields.ensures.err in
+    IfErr-weaker c.read_fields.result _ _ (λ e either. elim either [ inl memory ↦ inl memory | inr is ↦ inr (ap result_err (same ∙ is)) ]) err

@@ -1,9 +1,14 @@
-use Rattle.std.proofs.Common.{◌≡◌, ◌∙◌, ◌<◌, ◌≤◌, List, ap, length, get_or, map, arith, rules}
+use Rattle.std.proofs.Common.{◌≡◌, ◌∙◌, ◌<◌, ◌≤◌, List, ap, subst, length, get_or, map, arith, rules}
+use Rattle.std.specs.Prelude.{Err}
 use Rattle.std.proofs.lemmas.List.{take_all}
 use Rattle.std.proofs.lemmas.Result.{err_from_is_err_and}
+use Rattle.lan_rows.specs.Line.{line_of}
 use Rattle.lan_model.specs.Plain.{plain_field}
+use Rattle.lan_model.specs.PlainTable.{column_of}
 use Rattle.lan_manifest.specs.Manifests.{plain_manifest}
 use Rattle.lan_manifest.specs.declared.manifest.Fragment.{Fragment}
+use Rattle.lan_model.specs.declared.tree.Field.{Field}
+use Rattle.lan_scan.specs.Printing.{PrintsFragment}
 use Rattle.lan_scan.proofs.Fragments.{fragment_passed, prints_no_more}
 use Rattle.lan_scan.proofs.scanning.print_fragments.Goals as goal
 
@@ -15,8 +20,10 @@ returns-in_err-print_fragment-clause-prints g c = λ all told.
     let is : f ≡ get_or c.args.manifest.now.fragments i f = c.fragment-item.is ∙ ap (λ (l : List Fragment). get_or l i f) c.as_slice-fragment-items.ensures in
     let p = err_from_is_err_and c.from_residual.result c.from_residual.ensures.1 in
     rw (p.1, p.2)
-    (prints_no_more all (plain_manifest c.args.manifest.now) i f c.args.printer.now c.args.waiting.now c.loop-fragment.waiting c.print_fragment.new.waiting _ _ _ c.in_err-print_fragment.field-0.0 c.requires.column c.requires.files below is
-    (c.loop-fragment.invariant.prints all told) (c.in_err-print_fragment.ensures.prints all (c.loop-fragment.invariant.kept ∙ told)))
+    (prints_no_more all (plain_manifest c.args.manifest.now) i f (line_of (map column_of c.args.printer.now)) c.args.waiting.now c.loop-fragment.waiting c.print_fragment.new.waiting _ _ _ c.in_err-print_fragment.field-0.0 c.requires.column c.requires.files below is
+    (c.loop-fragment.invariant.prints all told)
+    (subst (λ (p : List Field). PrintsFragment all (map plain_field c.args.manifest.now.fields) f (line_of (map column_of p)) c.loop-fragment.waiting c.print_fragment.new.waiting (g.O.Sink.held c.loop-fragment.out) (g.O.Sink.held c.print_fragment.new.out) (Err c.in_err-print_fragment.field-0.0)) c.loop-fragment.invariant.same
+    (c.in_err-print_fragment.ensures.prints all (c.loop-fragment.invariant.kept ∙ told))))
 
 pub loop-fragment-preserved : goal.loop-fragment-preserved
 loop-fragment-preserved g c = record {
@@ -26,10 +33,11 @@ loop-fragment-preserved g c = record {
       let f = c.fragment-item.result in
       let below : i < length c.args.manifest.now.fragments = omega (arith, ap length c.as_slice-fragment-items.ensures) in
       let is : f ≡ get_or c.args.manifest.now.fragments i f = c.fragment-item.is ∙ ap (λ (l : List Fragment). get_or l i f) c.as_slice-fragment-items.ensures in
-      fragment_passed all (map plain_field c.args.manifest.now.fields) c.args.manifest.now.fragments i f c.args.printer.now c.args.waiting.now c.loop-fragment.waiting c.print_fragment.new.waiting _ _ _ below is
-      (c.loop-fragment.invariant.prints all told) (c.in_ok-print_fragment.ensures.prints all (c.loop-fragment.invariant.kept ∙ told));
+      fragment_passed all (map plain_field c.args.manifest.now.fields) c.args.manifest.now.fragments i f (line_of (map column_of c.args.printer.now)) c.args.waiting.now c.loop-fragment.waiting c.print_fragment.new.waiting _ _ _ below is
+      (c.loop-fragment.invariant.prints all told) (rw c.loop-fragment.invariant.same at (c.in_ok-print_fragment.ensures.prints all (c.loop-fragment.invariant.kept ∙ told)));
   faults = search rules;
   clashes = search rules;
+  same = c.print_fragment.ensures.same ∙ c.loop-fragment.invariant.same;
   later = search rules;
 }
 

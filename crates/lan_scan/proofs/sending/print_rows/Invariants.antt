@@ -1,11 +1,12 @@
-use Rattle.std.proofs.Common.{◌≤◌, flat_map, map, take}
-use Rattle.lan_model.specs.PlainTable.{row_of}
-use Rattle.lan_rows.specs.Rows.{line_behind}
+use Rattle.std.proofs.Common.{◌≡◌, ◌≤◌, flat_map, map, take}
+use Rattle.lan_model.specs.PlainTable.{column_of, row_of}
+use Rattle.lan_rows.specs.Line.{line_of}
 use Rattle.lan_scan.specs.Sending.{Sends}
 use Rattle.lan_scan.proofs.sending.print_rows.Given as goal
 
 abbrev pub invariant-loop-row : goal.invariant-loop-row
 invariant-loop-row g l = record {
-  sends : Sends (flat_map (line_behind l.printer) (map row_of (take l.row-index l.row-items))) l.initial.waiting (g.O.Sink.held l.initial.out) (g.O.Sink.held l.out) l.waiting;
+  sends : Sends (flat_map (line_of (map column_of l.initial.printer)) (map row_of (take l.row-index l.row-items))) l.initial.waiting (g.O.Sink.held l.initial.out) (g.O.Sink.held l.out) l.waiting;
+  same : l.printer ≡ l.initial.printer;
   later : g.O.Sink.faults l.initial.out ≤ g.O.Sink.faults l.out;
 }

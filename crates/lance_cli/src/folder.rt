@@ -8,13 +8,14 @@ use lan_store::{Dir, GetFault, ListFault, Name, Names, Put, PutFault, SizeFault,
 use std::alloc::{AllocError, Global};
 use std::fs::OpenFile;
 use std::io::{ErrorKind, Read, Seek, SeekFrom, Write};
+use std::path::Path;
 use std::rt::Files;
 use std::{fs, io};
 
 /// A dataset's folder, whose objects are the regular files in the folders of the three prefixes.
 ///
 /// A put writes `NAME.tmp`, syncs it, tests that no file has the name, renames, and syncs the
-/// folder. It tells nothing of its objects: what a file system holds is no matter of proof.
+/// folder, and each folder above it that got a new one. It tells nothing of its objects: what a file system holds is no matter of proof.
 #[derive(Drop)]
 pub struct FolderStore<R: Files + AllocGlobal + Clone + Drop> {
     rt: R,
@@ -108,13 +109,33 @@ fn sync_folder<R: Files + AllocGlobal>(rt: &R, path: &str) -> io::Result<()> {
     fs::open(rt, path)?.sync_all()
 }
 
-// Makes the folder of the prefix where it is absent.
-fn make_folder<R: Files + AllocGlobal>(rt: &R, folder: &Text, path: &str) -> io::Result<()> {
+// The folders above this absent one, up to the first that is there: each gets an entry when it is made.
+fn folders_above<'a, R: Files + AllocGlobal>(rt: &R, path: &'a str) -> io::Result<Vec<&'a str>> {
+    let mut above = Vec::new(rt.alloc());
+    for folder in Path::new(path).ancestors().skip(1) {
+        let folder = match folder.as_str() {
+            "" => ".",
+            named => named,
+        };
+        above.push(folder)?;
+        if fs::exists(rt, folder)? {
+            break;
+        }
+    }
+    Ok(above)
+}
+
+// Makes the folder of the prefix where it is absent, with those above it.
+fn make_folder<R: Files + AllocGlobal>(rt: &R, path: &str) -> io::Result<()> {
     if fs::exists(rt, path)? {
         return Ok(());
     }
+    let above = folders_above(rt, path)?;
     fs::create_dir_all(rt, path)?;
-    sync_folder(rt, folder.as_str())
+    for folder in above {
+        sync_folder(rt, folder)?;
+    }
+    Ok(())
 }
 
 fn write_file<R: Files + AllocGlobal>(rt: &R, path: &str, bytes: &[u8]) -> io::Result<()> {
@@ -135,7 +156,7 @@ fn put<R: Files + AllocGlobal>(
     let inside = path_of(alloc, folder, name.dir, "", "")?;
     let path = path_of(alloc, folder, name.dir, rest, "")?;
     let beside = path_of(alloc, folder, name.dir, rest, ".tmp")?;
-    make_folder(rt, folder, inside.as_str())?;
+    make_folder(rt, inside.as_str())?;
     write_file(rt, beside.as_str(), bytes)?;
     if fs::exists(rt, path.as_str())? {
         return Ok(Put::Exists);

@@ -1,5 +1,6 @@
 pub mod LineValue
 pub mod ReadingLemmas
+pub mod Names
 pub mod PrintingLemmas
 pub mod BitsTell
 pub mod LineTells

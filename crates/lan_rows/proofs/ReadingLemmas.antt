@@ -55,7 +55,7 @@ all_fit_more f (w ∷ ws) v h fit = (h.0, all_fit_more f ws v h.1 fit)
 pub all_fit_push : (f : PlainField ℕ) (vals more : List Val) (v : Val) → AllFit f (values_from (map plain_value vals)) → Fits f (plain_value v) → more ≡ vals ++ v ∷ [] → AllFit f (values_from (map plain_value more))
 all_fit_push f vals more v h fit is = rw (is, map-append plain_value vals (v ∷ [])) (all_fit_more f (map plain_value vals) (plain_value v) h fit)
 
-drop_past : {A : Type 0} (i : ℕ) (xs : List A) → length xs ≤ i → drop i xs ≡ []
+pub drop_past : {A : Type 0} (i : ℕ) (xs : List A) → length xs ≤ i → drop i xs ≡ []
 drop_past zero [] h = refl
 drop_past (suc i) [] h = refl
 drop_past zero (x ∷ xs) h = absurd (omega (arith, h))
@@ -90,7 +90,7 @@ members_push top ms fields i x vals more v before cut is more_is =
     let rest = members_values top (plain_fields (drop (i + 1) fields)) ms in
     before ∙ ap (λ l. on_good (λ later. map plain_value vals ++ later) (members_values top (plain_fields l) ms)) cut ∙ step_on (map plain_value vals) (plain_value v) (named_value top (plain_field x) ms) rest is ∙ pushed vals more v rest more_is
 
-plain_field-parts : (f : Field) → plain_field f ≡ field f.id f.name f.nullable (plain_type f.ty)
+pub plain_field-parts : (f : Field) → plain_field f ≡ field f.id f.name f.nullable (plain_type f.ty)
 plain_field-parts f = search (rules, field_lemmas)
 
 column_value-named : (f : Field) (ms : Members) → column_value (plain_field f) ms ≡ named_value f.name (plain_field f) ms

@@ -35,7 +35,7 @@ fn read_fields(alloc: Global, fields: &[Field], line: &[u8]) -> Result<Row, RowF
         return Err(RowFault::NotObject);
     };
     let row = read_columns(alloc, fields, &value, members)?;
-    match stray_key(fields, members) {
+    match stray_key(alloc, fields, members)? {
         Some(key) => Err(RowFault::StrayKey(Text::of(alloc, key)?)),
         None => Ok(row),
     }

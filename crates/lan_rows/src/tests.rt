@@ -31,6 +31,17 @@ fn widths(alloc: Global) -> Result<FieldList, AllocError> {
     Ok(fields)
 }
 
+// Forty fields, out of the order of their names.
+fn wide(alloc: Global) -> Result<FieldList, AllocError> {
+    let mut fields = FieldList::new(alloc);
+    for place in 0..40_u64 {
+        let name = format!(in alloc; "n{}", place * 7 % 40)?;
+        let int8 = Ty::Bits(Primitive::Int8);
+        fields.push(field(alloc, name.as_str(), false, int8)?)?;
+    }
+    Ok(fields)
+}
+
 // The fields of a case, by its number.
 fn fields_of(alloc: Global, case: u64) -> Result<FieldList, AllocError> {
     let mut fields = FieldList::new(alloc);
@@ -51,6 +62,7 @@ fn fields_of(alloc: Global, case: u64) -> Result<FieldList, AllocError> {
             fields.push(field(alloc, "note", true, Ty::Text)?)?;
         }
         3 => return widths(alloc),
+        5 => return wide(alloc),
         _ => {
             let mut members = FieldList::new(alloc);
             members.push(field(alloc, "a", false, Ty::Bits(Primitive::Int8))?)?;
@@ -157,6 +169,27 @@ fn lines_are_rows(rt: HostRuntime) -> Result<(), Fail> {
         let got = through(rt.alloc(), fields, line)?;
         assert_eq!(rt; got.as_slice(), printed.as_bytes(), "of {line}");
     }
+    Ok(())
+}
+
+// A line of forty keys in the order of their fields, and an end.
+fn wide_line(alloc: Global, end: &str) -> Result<Text, AllocError> {
+    let mut line = Text::of(alloc, "{\"n0\":0")?;
+    for place in 1..40_u64 {
+        let number = place * 7 % 40;
+        line.push(format!(in alloc; ",\"n{number}\":{number}")?.as_str())?;
+    }
+    line.push(end)?;
+    Ok(line)
+}
+
+#[test]
+fn wide_rows_have_no_stray_key(rt: HostRuntime) -> Result<(), Fail> {
+    let alloc = rt.alloc();
+    let whole = through(alloc, 5, wide_line(alloc, "}")?.as_str())?;
+    assert_eq!(rt; whole.as_slice(), wide_line(alloc, "}\n")?.as_slice());
+    let stray = through(alloc, 5, wide_line(alloc, ",\"z\":0,\"n2a\":0}")?.as_str())?;
+    assert_eq!(rt; stray.as_slice(), "stray key \"n2a\"".as_bytes());
     Ok(())
 }
 

@@ -1,6 +1,9 @@
 // The value that JSON stands for in a field.
-ghost use Rattle.std.specs.Prelude.{◌≡◌, ◌⊎◌, ◌≤◌, ◌*◌, ◌++◌, ℕ, Ok, Err, Some, None, IfOk, IfErr, IsUtf8, length, map, option_map, Bool};
+ghost use Rattle.std.specs.Prelude.{◌≡◌, ◌⊎◌, ◌≤◌, ◌*◌, ◌++◌, ℕ, List, Ok, Err, Some, None, IfOk, IfErr, IsUtf8, is_some, length, map, option_map, Bool};
+ghost use Rattle.std.specs.BTreeMap.{get_by};
+ghost use Rattle.std.specs.Cmp.Lexicographic.{slice_cmp};
 ghost use Rattle.std.specs.Int.{to_le_bytes, byte_len};
+ghost use Rattle.std.specs.Ordering.{nat_cmp};
 ghost use Rattle.serde_json.specs.Data.{object};
 ghost use Rattle.serde_json.specs.Find.{get};
 ghost use Rattle.serde_json.specs.View.{view, items_view, members_view};
@@ -18,10 +21,13 @@ use crate::faults::RowFault;
 use hex::FromHexError;
 use lan_model::{Blob, Field, List, Primitive, Text, Ty, Val};
 use serde_json::{Map, Value};
-use std::alloc::Global;
+use std::alloc::{AllocError, Global};
+use std::collections::BTreeMap;
 
 /// How many bytes of a text or of binary data a line may hold in one value.
 const MAX_VALUE: usize = 1 << 24;
+/// With at most so many fields or keys, each key is sought among the fields one after another.
+const FEW: usize = 16;
 
 /// The value, or its first fault; faults name the column `top`.
 #[cycle(values)]
@@ -75,7 +81,7 @@ fn read_group(alloc: Global, top: &str, fields: &[Field], value: &Value) -> Resu
     for field in fields {
         vals.push(read_member(alloc, top, field, value, members)?)?;
     }
-    match stray_key(fields, members) {
+    match stray_key(alloc, fields, members)? {
         Some(key) => Err(RowFault::StrayKey(Text::of(alloc, key)?)),
         None => Ok(Val::Group(vals)),
     }
@@ -103,7 +109,36 @@ pub fn read_member(
 }
 
 /// The first key, in the order of their bytes, that no field has.
-pub fn stray_key<'m>(fields: &[Field], members: &'m Map<String, Value>) -> Option<&'m str>
+pub fn stray_key<'m>(
+    alloc: Global,
+    fields: &[Field],
+    members: &'m Map<String, Value>,
+) -> Result<Option<&'m str>, AllocError>
+    ensures { IfOk result (λ stray. option_map (λ key. key.now) stray ≡ first_stray (plain_fields fields.now) (members_view members.now.entries)) }
+{
+    if fields.len().min(members.len()) <= FEW {
+        return Ok(stray_of_few(fields, members));
+    }
+    let names = names_of(alloc, fields)?;
+    for (key, _value) in members.iter() {
+        if !names.contains_key(key.as_str()) {
+            return Ok(Some(key.as_str()));
+        }
+    }
+    Ok(None)
+}
+
+fn names_of(alloc: Global, fields: &[Field]) -> Result<BTreeMap<&str, ()>, AllocError>
+    ensures { IfOk result (λ names. (key : List ℕ) → is_some (get_by (λ name. slice_cmp nat_cmp key name.now) names) ≡ name_among key (plain_fields fields.now)) }
+{
+    let mut names = BTreeMap::new(alloc);
+    for field in fields {
+        names.insert(field.name.as_str(), ())?;
+    }
+    Ok(names)
+}
+
+fn stray_of_few<'m>(fields: &[Field], members: &'m Map<String, Value>) -> Option<&'m str>
     ensures { option_map (λ key. key.now) result ≡ first_stray (plain_fields fields.now) (members_view members.now.entries) }
 {
     for (key, _value) in members.iter() {

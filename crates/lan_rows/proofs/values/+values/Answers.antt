@@ -45,7 +45,8 @@ read_group-returns-in-None-clause-ok t c =
     let fields = c.args.fields.now in
     let ms = members_view c.in-Some.members.now.entries in
     let past : length fields ≤ c.loop-field.field-index = omega (arith, c.loop-field-test.false) in
-    group_done c.args.top.now fields (view c.args.value.now) ms c.loop-field.field-index c.loop-field.vals c.in-Some.ensures c.in-None.ensures past c.loop-field.invariant.value
+    let none = rw c.in-None.is at c.in_ok-key.ensures in
+    group_done c.args.top.now fields (view c.args.value.now) ms c.loop-field.field-index c.loop-field.vals c.in-Some.ensures none past c.loop-field.invariant.value
 
 pub read_group-returns-in-None-clause-fit : goal.read_group-returns-in-None-clause-fit
 read_group-returns-in-None-clause-fit t c =

@@ -31,13 +31,13 @@ fn widths(alloc: Global) -> Result<FieldList, AllocError> {
     Ok(fields)
 }
 
-// Forty fields, out of the order of their names.
+// Two hundred fields, out of the order of their names.
 fn wide(alloc: Global) -> Result<FieldList, AllocError> {
     let mut fields = FieldList::new(alloc);
-    for place in 0..40_u64 {
-        let name = format!(in alloc; "n{}", place * 7 % 40)?;
-        let int8 = Ty::Bits(Primitive::Int8);
-        fields.push(field(alloc, name.as_str(), false, int8)?)?;
+    for place in 0..200_u64 {
+        let name = format!(in alloc; "n{}", place * 7 % 200)?;
+        let byte = Ty::Bits(Primitive::Uint8);
+        fields.push(field(alloc, name.as_str(), false, byte)?)?;
     }
     Ok(fields)
 }
@@ -172,11 +172,11 @@ fn lines_are_rows(rt: HostRuntime) -> Result<(), Fail> {
     Ok(())
 }
 
-// A line of forty keys in the order of their fields, and an end.
+// A line with a key of each of the two hundred fields, in their order, and an end.
 fn wide_line(alloc: Global, end: &str) -> Result<Text, AllocError> {
     let mut line = Text::of(alloc, "{\"n0\":0")?;
-    for place in 1..40_u64 {
-        let number = place * 7 % 40;
+    for place in 1..200_u64 {
+        let number = place * 7 % 200;
         line.push(format!(in alloc; ",\"n{number}\":{number}")?.as_str())?;
     }
     line.push(end)?;

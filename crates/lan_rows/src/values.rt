@@ -27,7 +27,7 @@ use std::collections::BTreeMap;
 /// How many bytes of a text or of binary data a line may hold in one value.
 const MAX_VALUE: usize = 1 << 24;
 /// With at most so many fields or keys, each key is sought among the fields one after another.
-const FEW: usize = 16;
+const FEW: usize = 128;
 
 /// The value, or its first fault; faults name the column `top`.
 #[cycle(values)]

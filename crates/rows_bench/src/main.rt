@@ -2,33 +2,38 @@
 //! schema in JSON.
 #![tactic(auto)]
 
+ghost use Rattle.std.specs.Prelude.{◌≡◌, List, Ok, IfOk, flat_map, map};
+ghost use Rattle.lan_model.specs.Plain.{PlainValue};
+ghost use Rattle.lan_model.specs.PlainTable.{column_of, row_of};
+ghost use Rattle.lan_rows.specs.Line.{line_of};
+ghost use Rattle.lan_rows.specs.Lines.{rows_of, lines_of};
+
 use lan_form::from_json;
 use lan_model::{Blob, FieldList, Rows};
-use lan_rows::{RowPrinter, read_rows};
-use std::alloc::Global;
+use lan_rows::{LinesFault, RowPrinter, read_rows};
+use std::alloc::{AllocError, Global};
 use std::io::{Read, Write};
 use std::process::ExitCode;
 use std::{env, io};
 
-// Bytes are written once so many wait.
-const PIECE: u64 = 1 << 16;
-
-fn print_rows<W: Write>(
-    alloc: Global,
-    fields: &FieldList,
-    rows: &Rows,
-    out: &mut W,
-) -> io::Result<()> {
+// The lines of the rows.
+fn lines_of(alloc: Global, fields: &FieldList, rows: &Rows) -> Result<Blob, AllocError>
+    ensures { IfOk result (λ lines. lines ≡ flat_map (line_of (map column_of fields.now)) (map row_of rows.now)) }
+{
     let mut printer = RowPrinter::new(alloc, fields);
-    let mut waiting = Blob::new(alloc);
+    let mut lines = Blob::new(alloc);
     for row in rows.as_slice() {
-        printer.print(alloc, row, &mut waiting)?;
-        if waiting.len() >= PIECE {
-            out.write_all(waiting.as_slice())?;
-            waiting.truncate(0);
-        }
+        printer.print(alloc, row, &mut lines)?;
     }
-    out.write_all(waiting.as_slice())
+    Ok(lines)
+}
+
+// The lines of the rows that the input's lines are.
+fn copied(alloc: Global, fields: &FieldList, input: &[u8]) -> Result<Blob, LinesFault>
+    ensures { IfOk result (λ lines. (rows : List (List PlainValue)) × (rows_of (map column_of fields.now) (lines_of input.now) ≡ Ok rows) × (lines ≡ flat_map (line_of (map column_of fields.now)) rows)) }
+{
+    let rows = read_rows(alloc, fields, input)?;
+    Ok(lines_of(alloc, fields, &rows)?)
 }
 
 fn copy_rows(rt: &HostRuntime, schema: &str) -> io::Result<bool> {
@@ -38,10 +43,10 @@ fn copy_rows(rt: &HostRuntime, schema: &str) -> io::Result<bool> {
     };
     let mut input = Vec::new(alloc);
     rt.reader().read_to_end(&mut input)?;
-    let Ok(rows) = read_rows(alloc, &fields, &input) else {
+    let Ok(lines) = copied(alloc, &fields, &input) else {
         return Ok(false);
     };
-    print_rows(alloc, &fields, &rows, &mut io::writer(rt))?;
+    io::writer(rt).write_all(lines.as_slice())?;
     Ok(true)
 }
 

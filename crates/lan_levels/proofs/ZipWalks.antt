@@ -1,8 +1,8 @@
 -- Slots that are spelled, one more at a time.
 use Rattle.std.proofs.Common.{◌≡◌, ℕ, zero, suc, ◌+◌, ◌<◌, List, [], ◌∷◌, ◌++◌, Option, Some, None, length, refl, ap, sym, ◌∙◌, arith}
 use Rattle.lan_levels.specs.PlainSlots.{PlainSlot}
-use Rattle.lan_zip.specs.Form.{PlainForm}
-use Rattle.lan_zip.specs.Spelled.{Read, cut, level, slot, first_slot, Part, before, onward, spelled}
+use Rattle.lan_levels.specs.ZipForm.{PlainForm}
+use Rattle.lan_levels.specs.ZipSlots.{Read, cut, level, slot, first_slot, Part, before, onward, spelled}
 
 pub spelled_none : (f : PlainForm) (all : List ℕ) → spelled f 0 all ≡ Some (record { slots = []; rest = all })
 unfolding spelled

@@ -1,21 +1,16 @@
 -- Slots one after another, as a full-zip page has them.
-use Rattle.std.specs.Prelude.{◌≡◌, ◌≢◌, ℕ, zero, suc, ◌+◌, ◌/◌, ◌%◌, ◌^◌, ◌<◌, ◌==◌, not, cond, ⊤, Bool, List, [], ◌∷◌, Option, Some, None, length, take, drop, slice_get}
+use Rattle.std.specs.Prelude.{◌≡◌, ℕ, zero, suc, ◌+◌, ◌/◌, ◌%◌, ◌^◌, ◌==◌, not, cond, ⊤, Bool, List, [], ◌∷◌, Option, Some, None, length, take, drop, slice_get}
 use lib.Dec.{ltb}
 use Rattle.std.specs.Int.{w16, w32}
 use Rattle.lan_bytes.specs.Numbers.{number_at}
 use Rattle.lan_model.specs.declared.tree.Layer.{Layer}
+use Rattle.lan_levels.specs.declared.shape.ValueForm.{ValueForm}
+use Rattle.lan_levels.specs.declared.shape.ValueForm.TheVariants as value
 use Rattle.lan_levels.specs.declared.slot.State.{State}
 use Rattle.lan_levels.specs.declared.slot.State.TheVariants as state
-use Rattle.lan_levels.specs.PlainSlots.{PlainPiece, nothing, bit, bytes, PlainSlot, plain_piece, plain_slot}
+use Rattle.lan_levels.specs.PlainSlots.{PlainPiece, nothing, bit, bytes, PlainSlot}
 use Rattle.lan_levels.specs.SlotsOf.{lists_in}
-use Rattle.lan_zip.specs.declared.fault.ZipFault.{ZipFault}
-use Rattle.lan_zip.specs.declared.fault.ZipFault.TheVariants as fault
-use Rattle.lan_zip.specs.declared.form.ValueForm.{ValueForm}
-use Rattle.lan_zip.specs.declared.form.ValueForm.TheVariants as value
-use Rattle.lan_zip.specs.declared.step.Found.{Found}
-use Rattle.lan_zip.specs.declared.step.Step.{Step}
-use Rattle.lan_zip.specs.declared.step.Step.TheVariants as step
-use Rattle.lan_zip.specs.Form.{PlainForm}
+use Rattle.lan_levels.specs.ZipForm.{PlainForm}
 
 -- a value and the bytes behind it
 pub record Valued : Type 0 where
@@ -109,11 +104,6 @@ abbrev pub FirstBegins : ℕ → List PlainSlot → Type 0
 FirstBegins lists [] = ⊤
 FirstBegins lists (s ∷ ss) = s.rep ≡ lists
 
--- what is read, where it is a slot, begins a row
-abbrev pub Begins : ℕ → Read → Type 0
-Begins lists (slot s rest) = s.rep ≡ lists
-Begins lists _ = ⊤
-
 -- without list layers each slot is a row
 abbrev pub AreRows : ℕ → ℕ → List PlainSlot → Type 0
 AreRows zero rows slots = length slots ≡ rows
@@ -123,61 +113,3 @@ AreRows lists rows slots = (starts lists slots ≡ rows) × FirstBegins lists sl
 pub record IsZip (f : PlainForm) (rows : ℕ) (all : List ℕ) (slots : List PlainSlot) : Type 0 where
   pub are : AreSlots f slots all
   pub rows_are : AreRows f.lists rows slots
-
--- a slot has to follow `n` of them: where there are list layers, bytes are left
-abbrev pub OneFollows : ℕ → ℕ → ℕ → List ℕ → Type 0
-OneFollows zero rows n rest = n < rows
-OneFollows lists rows n rest = rest ≢ []
-
--- the slot after `n` of them has to follow, and is none
-pub record StopsAt (f : PlainForm) (rows n : ℕ) (all : List ℕ) (read : Read) : Type 0 where
-  pub front : Part
-  pub is : spelled f n all ≡ Some front
-  pub follows : OneFollows f.lists rows n front.rest
-  pub here : first_slot f front.rest ≡ read
-
--- the bytes are slots, but not of so many rows
-pub record OtherRows (f : PlainForm) (rows : ℕ) (all : List ℕ) : Type 0 where
-  pub slots : List PlainSlot
-  pub listed : 0 < f.lists
-  pub are : AreSlots f slots all
-  pub other : AreRows f.lists rows slots → ⊥
-
--- bytes follow as many slots as there are rows
-pub record More (f : PlainForm) (rows : ℕ) (all : List ℕ) : Type 0 where
-  pub front : Part
-  pub single : f.lists ≡ 0
-  pub is : spelled f rows all ≡ Some front
-  pub extra : front.rest ≢ []
-
--- why the bytes are no slots of so many rows
-abbrev pub Stands : PlainForm → ℕ → List ℕ → ZipFault → Type 0
-Stands f rows all (fault.Cut n) = StopsAt f rows n all cut
-Stands f rows all (fault.Level n) = StopsAt f rows n all level
-Stands f rows all fault.Rows = OtherRows f rows all
-Stands f rows all fault.Extra = More f rows all
-
--- the slots of a part, where there is one
-abbrev pub slots_in : Option Part → List PlainSlot
-slots_in None = []
-slots_in (Some p) = p.slots
-
--- the bytes are `n` slots, and nothing follows
-pub record Whole (f : PlainForm) (n : ℕ) (all : List ℕ) : Type 0 where
-  pub slots : List PlainSlot
-  pub is : spelled f n all ≡ Some (record { slots = slots; rest = [] })
-
--- the bytes are `n` slots, of so many rows
-pub record Listed (f : PlainForm) (rows n : ℕ) (all : List ℕ) : Type 0 where
-  pub slots : List PlainSlot
-  pub is : spelled f n all ≡ Some (record { slots = slots; rest = [] })
-  pub rows_are : AreRows f.lists rows slots
-
-abbrev pub plain_step : Step → Read
-plain_step step.Cut = cut
-plain_step step.Level = level
-plain_step (step.Slot s rest) = slot (plain_slot s) rest.now
-
-abbrev pub plain_part : Option Found → Option Valued
-plain_part None = None
-plain_part (Some v) = Some (record { piece = plain_piece v.value; rest = v.rest.now })

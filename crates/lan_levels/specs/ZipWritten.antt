@@ -1,34 +1,14 @@
 -- The buffers of a full-zip page that is written.
-use Rattle.std.specs.Prelude.{◌≡◌, ℕ, zero, suc, ◌+◌, ◌*◌, ◌/◌, ◌%◌, ◌^◌, ◌<◌, ◌≤◌, ◌==◌, ◌||◌, not, cond, ⊤, Bool, true, false, List, [], ◌∷◌, ◌++◌, map, replicate, Some, length, slice_get}
+use Rattle.std.specs.Prelude.{◌≡◌, ℕ, ◌+◌, ◌*◌, ◌^◌, ◌<◌, ◌≤◌, ◌==◌, ◌||◌, not, cond, ⊤, Bool, true, false, List, [], ◌∷◌, ◌++◌, replicate, Some, length, slice_get}
 use Rattle.std.specs.List.{concat}
 use Rattle.lan_bytes.specs.Numbers.{low_first}
-use Rattle.lan_model.specs.declared.tree.Leaf.{Leaf}
-use Rattle.lan_model.specs.Leaves.{PlainLeaf, plain_leaf}
-use Rattle.lan_model.specs.Plain.{PlainType, primitive, vector}
-use Rattle.lan_model.specs.Fits.{width}
-use Rattle.lan_levels.specs.declared.shape.ValueKind.{ValueKind}
-use Rattle.lan_levels.specs.declared.shape.ValueKind.TheVariants as stored
+use Rattle.lan_levels.specs.declared.shape.ValueForm.{ValueForm}
+use Rattle.lan_levels.specs.declared.shape.ValueForm.TheVariants as value
 use Rattle.lan_levels.specs.declared.slot.State.{State}
 use Rattle.lan_levels.specs.declared.slot.State.TheVariants as state
-use Rattle.lan_levels.specs.Codes.{layer_code}
 use Rattle.lan_levels.specs.PlainSlots.{PlainPiece, nothing, bit, bytes, PlainSlot}
-use Rattle.lan_zip.specs.declared.form.ValueForm.{ValueForm}
-use Rattle.lan_zip.specs.declared.form.ValueForm.TheVariants as value
-use Rattle.lan_zip.specs.Form.{PlainForm, form_for, value_form}
-use Rattle.lan_zip.specs.Spelled.{is_bare}
-
--- how the values of a leaf of that type are stored
-abbrev pub kind_of : PlainType ℕ → ValueKind
-kind_of (primitive p) = stored.Flat (width p)
-kind_of (vector p n) = stored.Flat (n * width p)
-kind_of _ = stored.Variable
-
--- the form of a leaf's slots, with the writer's codes
-abbrev pub leaf_form : PlainLeaf → PlainForm
-leaf_form l = form_for (map layer_code l.layers) l.layers (value_form l.ty (kind_of l.ty))
-
-abbrev pub written_form : Leaf → PlainForm
-written_form l = leaf_form (plain_leaf l)
+use Rattle.lan_levels.specs.ZipForm.{PlainForm}
+use Rattle.lan_levels.specs.ZipSlots.{is_bare}
 
 -- a present value is of the form, and a slot in any other state has none
 abbrev pub FitsForm : ValueForm → State → PlainPiece → Type 0
@@ -46,12 +26,6 @@ pub record CanStand (f : PlainForm) (s : PlainSlot) : Type 0 where
   pub numbered : slice_get f.states number ≡ Some s.state
   pub value : FitsForm f.value s.state s.value
 
--- a number in so many bytes, up to two, the lowest first
-abbrev pub word_bytes : ℕ → ℕ → List ℕ
-word_bytes zero n = []
-word_bytes (suc zero) n = n % 256 ∷ []
-word_bytes _ n = n % 256 ∷ n / 256 % 256 ∷ []
-
 -- a value; where there is none, zero bytes, false or the empty text
 abbrev pub value_bytes : ValueForm → PlainPiece → List ℕ
 value_bytes value.Bool (bit true) = 1 ∷ []
@@ -63,7 +37,7 @@ value_bytes value.Variable _ = low_first 4 0
 
 -- a slot with that definition number
 abbrev pub slot_bytes : PlainForm → ℕ → PlainSlot → List ℕ
-slot_bytes f def s = word_bytes f.word (s.rep * 2 ^ f.bits + def) ++ cond (is_bare f.layers s.state) [] (value_bytes f.value s.value)
+slot_bytes f def s = low_first f.word (s.rep * 2 ^ f.bits + def) ++ cond (is_bare f.layers s.state) [] (value_bytes f.value s.value)
 
 -- the bytes are the slot, with the number of its state
 pub record SlotIs (f : PlainForm) (s : PlainSlot) (all : List ℕ) : Type 0 where
@@ -108,18 +82,3 @@ pub record ArePage (f : PlainForm) (slots : List PlainSlot) (buffers : List (Lis
   pub starts : List ℕ
   pub gathered : Gathered f slots content starts
   pub are : buffers ≡ content ∷ cond (is_indexed f) ((starts ++ low_first 8 (length content)) ∷ []) []
-
--- the bytes have grown by the slot
-pub record Appends (f : PlainForm) (s : PlainSlot) (old new : List ℕ) : Type 0 where
-  pub part : List ℕ
-  pub is : SlotIs f s part
-  pub grown : new ≡ old ++ part
-
--- some number stands for the state
-abbrev pub HasNumber : List State → State → Type 0
-HasNumber states s = (n : ℕ) × (slice_get states n ≡ Some s)
-
--- the length of a value of any length has room in four bytes
-abbrev pub IsShort : ValueForm → PlainPiece → Type 0
-IsShort value.Variable (bytes bs) = length bs < 2 ^ 32
-IsShort _ _ = ⊤

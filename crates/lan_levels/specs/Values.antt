@@ -1,10 +1,8 @@
 -- What values the bytes of a buffer stand for.
-use Rattle.std.specs.Prelude.{◌≡◌, ◌≢◌, ℕ, zero, suc, ◌+◌, ◌-◌, ◌*◌, ◌/◌, ◌%◌, ◌^◌, ◌<◌, ◌≤◌, ◌==◌, Bool, List, [], ◌∷◌, length, take, drop, slice_index}
+use Rattle.std.specs.Prelude.{◌≡◌, ℕ, zero, suc, ◌+◌, ◌-◌, ◌*◌, ◌/◌, ◌%◌, ◌^◌, ◌<◌, ◌≤◌, ◌==◌, Bool, List, [], ◌∷◌, length, take, drop, slice_index}
 use Rattle.std.specs.Int.{w32}
 use Rattle.lan_bytes.specs.Numbers.{number_at}
 use Rattle.lan_levels.specs.PlainSlots.{PlainPiece, bit, bytes}
-use Rattle.lan_values.specs.declared.fault.ValueFault.{ValueFault}
-use Rattle.lan_values.specs.declared.fault.ValueFault.TheVariants as fault
 
 -- values of so many bytes each; bools; values of any length
 pub data Encoding : Type 0 where
@@ -64,20 +62,3 @@ pub record ValuesOf (encoding : Encoding) (n : ℕ) (all : List ℕ) (values : L
   pub buffer : IsBuffer encoding n all
   pub are : values ≡ values_of encoding n all
   pub count : length values ≡ n
-
--- the offset is below the one before it, and none before it is
-pub record FallsFirst (n : ℕ) (all : List ℕ) (i : ℕ) : Type 0 where
-  pub begins : BeginsWell n all
-  pub later : (1 ≤ i) × (i ≤ n)
-  pub rises : NoneFalls all (i - 1)
-  pub falls : offset all i < offset all (i - 1)
-
--- why the bytes are no buffer of `n` values
-abbrev pub Stands : Encoding → ℕ → List ℕ → ValueFault → Type 0
-Stands (flat width) n all fault.Length = length all ≢ width * n
-Stands bools n all fault.Length = length all ≢ (n + 7) / 8
-Stands variable n all fault.Length = length all < 4 * (n + 1)
-Stands variable n all fault.FirstOffset = (4 * (n + 1) ≤ length all) × (offset all 0 ≢ 4 * (n + 1))
-Stands variable n all (fault.Falling i) = FallsFirst n all i
-Stands variable n all fault.LastOffset = BeginsWell n all × NoneFalls all n × (offset all n ≢ length all)
-Stands _ n all _ = ⊥

@@ -1,4 +1,4 @@
--- The bytes of buffers that are built.
+-- The bytes of value buffers that are built.
 use Rattle.std.specs.Prelude.{ℕ, zero, suc, ◌+◌, ◌*◌, Bool, true, false, List, [], ◌∷◌, ◌++◌, length, map, take, drop}
 use Rattle.std.specs.List.{concat}
 use Rattle.lan_bytes.specs.Numbers.{low_first}
@@ -31,8 +31,3 @@ abbrev pub variable_bytes : List (List ℕ) → List ℕ
 variable_bytes values =
     let first = 4 * (length values + 1) in
     four_bytes first ++ ends_bytes first (map (λ (v : List ℕ). length v) values) ++ concat values
-
--- bytes cut into values of these lengths
-unfoldable pub cut_by : List ℕ → List ℕ → List (List ℕ)
-cut_by [] all = []
-cut_by (n ∷ ns) all = take n all ∷ cut_by ns (drop n all)

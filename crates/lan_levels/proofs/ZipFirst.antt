@@ -8,10 +8,10 @@ use Rattle.lan_bytes.specs.Numbers.{number_at}
 use Rattle.lan_levels.specs.declared.slot.State.{State}
 use Rattle.lan_levels.specs.declared.slot.State.TheVariants as state
 use Rattle.lan_levels.specs.PlainSlots.{PlainSlot, bytes, bit, nothing}
-use Rattle.lan_zip.specs.declared.form.ValueForm.{ValueForm}
-use Rattle.lan_zip.specs.declared.form.ValueForm.TheVariants as value
-use Rattle.lan_zip.specs.Form.{PlainForm}
-use Rattle.lan_zip.specs.Spelled.{Valued, cut, level, slot, sized_part, value_part, kept, is_bare, slot_value, word_number, with_value, with_state, with_word, first_slot}
+use Rattle.lan_levels.specs.declared.shape.ValueForm.{ValueForm}
+use Rattle.lan_levels.specs.declared.shape.ValueForm.TheVariants as value
+use Rattle.lan_levels.specs.ZipForm.{PlainForm}
+use Rattle.lan_levels.specs.ZipSlots.{Valued, cut, level, slot, sized_part, value_part, kept, is_bare, slot_value, word_number, with_value, with_state, with_word, first_slot}
 
 pub word_cut : (f : PlainForm) (all : List ℕ) → length all < f.word → cut ≡ first_slot f all
 unfolding first_slot

@@ -16,8 +16,6 @@ mod reading_laws;
 mod renumbering;
 mod rules;
 mod shape;
-#[cfg(test)]
-mod tests;
 mod trees;
 mod writing;
 mod writing_laws;

@@ -6,8 +6,6 @@ mod item;
 mod laws;
 mod readers;
 mod reading;
-#[cfg(test)]
-mod tests;
 mod writer;
 
 pub use fields::Fields;

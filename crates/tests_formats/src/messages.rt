@@ -1,11 +1,11 @@
-use crate::{Fields, Item, NumsFault, WireFault, WireKind, Writer};
 use lan_bytes::View;
 use lan_model::Nums;
+use lan_wire::{Fields, Item, NumsFault, WireFault, WireKind, Writer};
 use std::alloc::{AllocError, Global};
 use std::test::Fail;
 
 // A field x of type int64 that has no parent, as its message says it.
-const FIELD: &[u8; 23] =
+pub const FIELD: &[u8; 23] =
     b"\x08\x02\x12\x01x\x20\xff\xff\xff\xff\xff\xff\xff\xff\xff\x01\x2a\x05int64";
 
 fn next_item<'a>(fields: &mut Fields<'a>) -> Result<Item<'a>, Fail> {

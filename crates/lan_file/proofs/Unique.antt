@@ -16,7 +16,7 @@ use Rattle.lan_model.specs.Table.{FitsRow}
 use Rattle.lan_file.specs.declared.fault.FileReason.{FileReason}
 use Rattle.lan_file.specs.declared.fault.FileReason.TheVariants.{Missing, Size, Short, TooShort, Magic, Version, Region, Descriptor, Plain, Rows}
 use Rattle.lan_schema.specs.Logical.{IsFixedType}
-use Rattle.lan_zip.specs.Spelled.{Valued}
+use Rattle.lan_levels.specs.ZipSlots.{Valued}
 use Rattle.lan_file.specs.Stage.{IsRequiredFixed, States}
 use Rattle.lan_file.specs.Stating.{StandAll, FitsOne}
 use Rattle.lan_file.specs.Texts.{schema_text, descriptor_text}

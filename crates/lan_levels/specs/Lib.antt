@@ -8,3 +8,9 @@ pub mod EachLeaf
 pub mod Loosened
 pub mod BadSlots
 pub mod Taken
+pub mod Values
+pub mod BuiltValues
+pub mod ZipForm
+pub mod ZipSlots
+pub mod ZipWritten
+pub mod ZipSpelling

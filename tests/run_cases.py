@@ -145,7 +145,9 @@ def faults_of(path, program, place):
                 finish()
                 name, *words = rest.split()
                 data = before.setdefault((folder, name), bytes_of(os.path.join(folder, name)))
-                if word == "changed":
+                if isinstance(data, str):
+                    lines.append(f"{os.path.basename(path)}: {name}: {data}")
+                elif word == "changed":
                     put(folder, name, with_changes(data, pairs_of(words)))
                 else:
                     runs += len(words) // 2

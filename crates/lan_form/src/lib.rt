@@ -8,8 +8,6 @@ mod names;
 mod printing;
 mod reading;
 mod shape;
-#[cfg(test)]
-mod tests;
 mod words;
 
 pub use faults::FormFault;

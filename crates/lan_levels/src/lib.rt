@@ -21,8 +21,3 @@ pub use join::Join;
 pub use shape::{Shape, ValueForm, ValueKind};
 pub use shredding::shred;
 pub use slot::{Piece, Runs, Slot, SlotRun, Slots, State};
-
-#[cfg(test)]
-mod samples;
-#[cfg(test)]
-mod tests;

@@ -26,6 +26,3 @@ pub use tree::{
     Command, Field, FieldList, Layer, Layers, Leaf, Leaves, Primitive, Row, Rows, Table, Ty, Val,
     Vals,
 };
-
-#[cfg(test)]
-mod tests;

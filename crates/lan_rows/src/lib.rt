@@ -7,8 +7,6 @@ pub mod laws;
 mod lines;
 mod printing;
 mod reading;
-#[cfg(test)]
-mod tests;
 mod values;
 mod words;
 

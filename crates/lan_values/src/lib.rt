@@ -15,6 +15,3 @@ pub use fault::ValueFault;
 pub use flat::{FlatView, put_flat};
 pub use gathering::VarBuf;
 pub use variable::VarView;
-
-#[cfg(test)]
-mod tests;

@@ -6,4 +6,3 @@ pub mod Rows
 pub mod Words
 pub mod Standing
 pub mod Paths
-pub mod Texts

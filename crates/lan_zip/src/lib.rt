@@ -11,6 +11,3 @@ mod view;
 pub use fault::ZipFault;
 pub use page::build_page;
 pub use view::{ZipSlots, ZipView};
-
-#[cfg(test)]
-mod tests;

@@ -1,4 +1,4 @@
--- The slots of three texts, for a page of them in the tests.
+-- The slots of three texts.
 use Rattle.std.proofs.Common.{◌≡◌, ℕ, true, List, [], ◌∷◌, take, All, refl, sym, subst, arith}
 use Rattle.std.proofs.lemmas.List.Elements.{All-nil, All-cons}
 use Rattle.lan_model.specs.declared.tree.Layer.{Layer}

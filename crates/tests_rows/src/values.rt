@@ -1,15 +1,15 @@
 ghost use Rattle.std.specs.Prelude.{◌<◌, length};
 
-use crate::{BoolView, ConstView, FlatView, ValueFault, VarBuf, VarView, put_bools, put_flat};
 use lan_bytes::{Out, View};
 use lan_levels::Piece;
+use lan_values::{BoolView, ConstView, FlatView, ValueFault, VarBuf, VarView, put_bools, put_flat};
 use std::alloc::{AllocError, Global};
 use std::test::Fail;
 
-/// Nine bools, with the unused bits of the second byte set.
+// Nine bools, with the unused bits of the second byte set.
 const BOOLS: [u8; 2] = [0x05, 0xfe];
 
-/// The values `ab`, none and `c` behind their four offsets.
+// The values `ab`, none and `c` behind their four offsets.
 const TEXTS: [u8; 19] = [
     16, 0, 0, 0, 18, 0, 0, 0, 18, 0, 0, 0, 19, 0, 0, 0, 0x61, 0x62, 0x63,
 ];
@@ -34,12 +34,6 @@ fn nine_bools(alloc: Global) -> Result<Vec<u8>, AllocError> {
     Ok(out.finish())
 }
 
-fn fault_of(bytes: &[u8], n: u64) -> Option<ValueFault>
-    requires { length bytes.now < 100 }
-{
-    VarView::open(View::new(0, bytes), n).err()
-}
-
 #[test]
 fn built_buffers_have_these_bytes(rt: HostRuntime) -> Result<(), Fail> {
     let bytes = gathered(rt.alloc())?;
@@ -50,35 +44,33 @@ fn built_buffers_have_these_bytes(rt: HostRuntime) -> Result<(), Fail> {
 }
 
 #[test]
-fn values_are_read_where_they_stand(rt: HostRuntime) {
-    let Ok(bools) = BoolView::open(View::new(0, BOOLS.as_slice()), 9) else {
-        return;
-    };
+fn values_are_read_where_they_stand(rt: HostRuntime) -> Result<(), Fail> {
+    let bools = BoolView::open(View::new(0, BOOLS.as_slice()), 9)?;
     assert!(rt;
-        matches!(bools.at(2), Piece::Bit(true)) && matches!(bools.at(1), Piece::Bit(false))
+        matches!(bools.at(2), Piece::Bit(true)) && matches!(bools.at(8), Piece::Bit(false))
     );
-    assert!(rt; matches!(bools.at(8), Piece::Bit(false)));
-    assert!(rt; BoolView::open(View::new(0, BOOLS.as_slice()), 17).is_err());
-    assert!(rt; BoolView::open(View::new(0, BOOLS.as_slice()), u64::MAX).is_err());
-    let Ok(flat) = FlatView::open(View::new(0, TEXTS.as_slice()), 19, 1) else {
-        return;
-    };
+    let flat = FlatView::open(View::new(0, TEXTS.as_slice()), 19, 1)?;
     assert!(rt; matches!(flat.at(0), Piece::Bytes(value) if value.len() == 19));
-    assert!(rt; FlatView::open(View::new(0, TEXTS.as_slice()), 1 << 32, 1 << 32).is_err());
-    assert!(rt; FlatView::open(View::new(0, &TEXTS[..0]), 0, u64::MAX).is_ok());
+    let texts = VarView::open(View::new(0, TEXTS.as_slice()), 3)?;
+    assert!(rt; matches!(texts.at(0), Piece::Bytes(b"ab")));
     assert!(rt; matches!(ConstView::new(Piece::Bit(true), 3).at(2), Piece::Bit(true)));
+    Ok(())
+}
+
+fn fault_of(bytes: &[u8], n: u64) -> Option<ValueFault>
+    requires { length bytes.now < 100 }
+{
+    VarView::open(View::new(0, bytes), n).err()
 }
 
 #[test]
 fn wrong_offsets_are_named(rt: HostRuntime) {
-    assert_eq!(rt; fault_of(&TEXTS, 3), None);
-    assert_eq!(rt; fault_of(&TEXTS[..18], 3), Some(ValueFault::LastOffset));
-    assert_eq!(rt; fault_of(&TEXTS, 4), Some(ValueFault::Length));
-    assert_eq!(rt; fault_of(&TEXTS, u64::MAX), Some(ValueFault::Length));
-    assert_eq!(rt;
-        fault_of(&[12, 0, 0, 0, 12, 0, 0, 0], 1),
-        Some(ValueFault::FirstOffset)
-    );
+    let fault = Some(ValueFault::LastOffset);
+    assert_eq!(rt; fault_of(&TEXTS[..18], 3), fault);
+    let fault = Some(ValueFault::Length);
+    assert_eq!(rt; fault_of(&TEXTS, 4), fault);
+    let fault = Some(ValueFault::FirstOffset);
+    assert_eq!(rt; fault_of(&[12, 0, 0, 0, 12, 0, 0, 0], 1), fault);
     let falling = [12, 0, 0, 0, 13, 0, 0, 0, 12, 0, 0, 0, 0x61];
     assert_eq!(rt; fault_of(&falling, 2), Some(ValueFault::Falling(2)));
 }

@@ -9,8 +9,6 @@ mod page;
 mod reading;
 mod stating;
 mod tail;
-#[cfg(test)]
-mod tests;
 mod texts;
 mod widths;
 mod writing;

@@ -6,6 +6,3 @@ mod laws;
 
 pub use fresh::{file_number, file_path, fresh_file, fresh_fragment};
 pub use laws::{fresh_names_are_free, numbers_are_read_back, paths_of_numbers_are_paths};
-
-#[cfg(test)]
-mod tests;

@@ -8,8 +8,6 @@ mod laws;
 mod manifest;
 mod reading;
 mod rules;
-#[cfg(test)]
-mod tests;
 mod versions;
 mod writing;
 

@@ -23,6 +23,3 @@ pub use sink::Sink;
 pub use source::{Failed, Source};
 pub use store::{GetFault, ListFault, Put, PutFault, SizeFault, Store};
 pub use streams::{MemSink, MemSource};
-
-#[cfg(test)]
-mod tests;

@@ -1,10 +1,11 @@
 -- The laws' terms: what a proof of another crate cites of this one.
 pub use Rattle.lan_wire.proofs.FaultsHold.{no_item, no_items, one_fault}
+pub use Rattle.lan_wire.proofs.ItemSizes.{few_parts}
 pub use Rattle.lan_wire.proofs.MessageLaws.{front_not_nil, items_append, items_unique}
 pub use Rattle.lan_wire.proofs.NumberLists.{numbers_are}
 pub use Rattle.lan_wire.proofs.NumbersFit.{num_fits, nums_fit}
 pub use Rattle.lan_wire.proofs.OneFault.{one_failure}
-pub use Rattle.lan_wire.proofs.OneMember.{one_member}
+pub use Rattle.lan_wire.proofs.OneMember.{one_member, refused_part}
 pub use Rattle.lan_wire.proofs.OneReading.{one_reading, no_reading}
 pub use Rattle.lan_wire.proofs.SaidFits.{small_fits, signed_fits, text_fits, signeds_fit}
 pub use Rattle.lan_wire.proofs.SpellingLaws.{one_item, same_read}

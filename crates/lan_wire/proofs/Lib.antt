@@ -4,6 +4,7 @@ pub mod FrontItem
 pub mod FrontVarint
 pub mod Groups
 pub mod ItemLists
+pub mod ItemSizes
 pub mod Judgement
 pub mod LawTerms
 pub mod MessageLaws

@@ -5,9 +5,10 @@ use Rattle.std.specs.List.{list_any}
 use Rattle.std.proofs.lemmas.Bool.{eqb-true}
 use Rattle.lan_bytes.specs.Placed.{Placed}
 use Rattle.lan_wire.specs.declared.item.Item.{Item}
-use Rattle.lan_wire.specs.declared.rules.Kind.TheVariants.{OneOf}
+use Rattle.lan_wire.specs.declared.rules.Kind.{Kind}
+use Rattle.lan_wire.specs.declared.rules.Kind.TheVariants.{OneOf, Refused}
 use Rattle.lan_wire.specs.Rules.{Rules, kind_at}
-use Rattle.lan_wire.specs.Messages.{is_one_of, is_taken, Obey, ReadsItems}
+use Rattle.lan_wire.specs.Messages.{IsOfKind, is_one_of, is_taken, Obey, ReadsItems}
 use Rattle.lan_wire.specs.Values.{of_number, last_from, part_of_item, part_under}
 
 -- some item has the number
@@ -83,3 +84,16 @@ pub one_member : (rules : Rules) (message : Placed) (items : List Item) (a b : �
     → part_under a items ≡ Some p → part_under b items ≡ Some q → ⊥
 one_member rules message items a b p q ne is_a is_b reads said_a said_b =
     both rules [] items a b ne is_a is_b reads.obeyed (said_is_there (has a items) a items p refl said_a) (said_is_there (has b items) b items q refl said_b)
+
+-- a number that isn't accepted isn't said
+pub refused_absent : (rules : Rules) (before items : List Item) (number : ℕ) → kind_at rules number ≡ Refused → Obey rules before items → of_number number items ≡ []
+refused_absent rules before [] number is obey = refl
+refused_absent rules before (x ∷ xs) number is obey = by (nat_eq x.number number) refl (refused_absent rules (before ++ x ∷ []) xs number is obey.1) where
+  by : (b : Bool) → nat_eq x.number number ≡ b → of_number number xs ≡ [] → of_number number (x ∷ xs) ≡ []
+  by true t others =
+      let kind : kind_at rules x.number ≡ Refused = ap (kind_at rules) (eqb-true x.number number t) ∙ is in
+      absurd (subst (λ (k : Kind). IsOfKind k x) kind obey.0.read)
+  by false t others = rw t others
+
+pub refused_part : (rules : Rules) (message : Placed) (items : List Item) (number : ℕ) → kind_at rules number ≡ Refused → ReadsItems rules message items → part_under number items ≡ None
+refused_part rules message items number is r = ap (λ (xs : List Item). part_of_item (last_from None xs)) (refused_absent rules [] items number is r.obeyed)

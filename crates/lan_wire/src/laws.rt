@@ -8,7 +8,7 @@ ghost use Rattle.lan_bytes.specs.Placed.{Placed};
 ghost use Rattle.lan_wire.specs.declared.item.WireKind.{WireKind};
 ghost use Rattle.lan_wire.specs.declared.item.WireFault.{WireFault};
 ghost use Rattle.lan_wire.specs.declared.item.Item.{Item};
-ghost use Rattle.lan_wire.specs.declared.rules.Kind.TheVariants.{OneOf, Numbers};
+ghost use Rattle.lan_wire.specs.declared.rules.Kind.TheVariants.{OneOf, Numbers, Refused};
 ghost use Rattle.lan_wire.specs.Readers.{AreNumbers, BreaksOff, IsInt32, signed_of, text_of};
 ghost use Rattle.lan_wire.specs.Faults.{BreaksItem};
 ghost use Rattle.lan_wire.specs.Spells.{Spells, Items, numbered, part_placed};
@@ -99,6 +99,16 @@ pub fn messages_are_read_once()
 pub fn oneofs_have_one_member()
     ensures { (rules : Rules) (message : Placed) (items : List Item) (a b : ℕ) (p q : Placed) → (a ≡ b → ⊥) → kind_at rules a ≡ OneOf → kind_at rules b ≡ OneOf
         → ReadsItems rules message items → part_under a items ≡ Some p → part_under b items ≡ Some q → ⊥ }
+{}
+
+/// A number that isn't accepted isn't said.
+pub fn refused_numbers_are_absent()
+    ensures { (rules : Rules) (message : Placed) (items : List Item) (number : ℕ) → kind_at rules number ≡ Refused → ReadsItems rules message items → part_under number items ≡ None }
+{}
+
+/// A message of so many bytes has at most half as many messages in it.
+pub fn messages_are_few()
+    ensures { (rules : Rules) (message : Placed) (items : List Item) (number : ℕ) → ReadsItems rules message items → 2 * length (parts_under number items) ≤ length message.bytes }
 {}
 
 /// What is written is read under its rules, wherever it lies: each part of it is short enough for its

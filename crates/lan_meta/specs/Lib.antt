@@ -5,3 +5,4 @@ pub mod PageMessages
 pub mod PageRules
 pub mod Stage
 pub mod ValueMessages
+pub mod Written

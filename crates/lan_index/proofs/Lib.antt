@@ -1,0 +1,6 @@
+pub mod PastLemmas
+pub mod PieceLemmas
+pub mod RunLemmas
+pub mod Segments
+pub mod RowSlots
+pub mod ZipPlaces

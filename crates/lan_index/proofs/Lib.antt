@@ -4,3 +4,4 @@ pub mod RunLemmas
 pub mod Segments
 pub mod RowSlots
 pub mod ZipPlaces
+pub mod ChunkLemmas

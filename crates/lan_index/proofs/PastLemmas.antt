@@ -1,9 +1,9 @@
 -- The row before which a piece ends.
-use Rattle.std.proofs.Common.{◌≡◌, ℕ, zero, suc, ◌+◌, ◌-◌, ◌^◌, ◌<◌, ◌≤◌, ◌⊎◌, inl, inr, Bool, true, false, cond, ◌||◌, max, refl, ap, ap₂, sym, ◌∙◌, arith}
+use Rattle.std.proofs.Common.{◌≡◌, ℕ, zero, suc, ◌+◌, ◌-◌, ◌<◌, ◌≤◌, ◌⊎◌, inl, inr, Bool, true, false, cond, ◌||◌, max, refl, ap, ap₂, sym, ◌∙◌, arith}
 use Rattle.std.specs.Prelude.{nat_le}
 use Rattle.std.proofs.lemmas.Bool.{leb-true, leb-false, le-leb}
 use Rattle.lan_levels.specs.Stretch.{Stretch, size, IsRising, cover, Has}
-use Rattle.lan_levels.specs.Past.{most_bytes, greatest, is_short, furthest, past, MayEnd, IsPast, EachPieceEnds, IsCover, CoversAreLeast}
+use Rattle.lan_levels.specs.Past.{most_bytes, greatest, is_short, furthest, past, MayEnd, IsPast, EachPieceEnds, CoversAreLeast}
 
 greatest_zero : (test : ℕ → Bool) → greatest test 0 ≡ 0
 unfolding greatest

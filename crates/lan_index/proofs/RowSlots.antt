@@ -1,11 +1,9 @@
 -- The slots of some rows of a page.
-use Rattle.std.proofs.Common.{◌≡◌, ◌==◌, ℕ, zero, suc, ◌+◌, ◌-◌, ◌/◌, ◌%◌, ◌^◌, ◌≤◌, Bool, true, false, cond, List, [], ◌∷◌, ◌++◌, Option, Some, None, length, take, drop, slice_get, refl, ap, subst, sym, ◌∙◌, arith, length-take}
-use Rattle.std.proofs.lemmas.Bool.{eqb-true, eq-eqb, ltb-false}
-use lib.Dec.{ltb}
-use Rattle.lan_levels.specs.declared.slot.State.{State}
-use Rattle.lan_levels.specs.PlainSlots.{PlainPiece, PlainSlot}
+use Rattle.std.proofs.Common.{◌≡◌, ◌==◌, ℕ, zero, suc, ◌+◌, ◌-◌, ◌≤◌, Bool, true, false, cond, List, [], ◌∷◌, ◌++◌, Some, length, take, drop, refl, ap, subst, sym, ◌∙◌, arith, length-take}
+use Rattle.std.proofs.lemmas.Bool.{eqb-true, eq-eqb}
+use Rattle.lan_levels.specs.PlainSlots.{PlainSlot}
 use Rattle.lan_levels.specs.ZipForm.{PlainForm}
-use Rattle.lan_levels.specs.ZipSlots.{Valued, cut, level, slot, word_number, with_value, with_state, with_word, slot_value, first_slot, Part, spelled, starts, FirstBegins, AreRows, IsZip}
+use Rattle.lan_levels.specs.ZipSlots.{first_slot, Part, spelled, starts, FirstBegins, AreRows, IsZip}
 use Rattle.lan_levels.proofs.ZipWalks.{spelled_none, spelled_more, opened, count_slots}
 use Rattle.lan_levels.specs.ZipRows.{slots_before, slots_of_rows, slot_place, row_place}
 use Rattle.lan_levels.proofs.ZipSpelling.{parted, first_front}

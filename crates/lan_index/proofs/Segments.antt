@@ -1,5 +1,5 @@
 -- Slots one after another, cut between two slots.
-use Rattle.std.proofs.Common.{◌≡◌, ℕ, zero, suc, ◌+◌, ◌-◌, List, [], ◌++◌, Option, Some, length, take, drop, refl, ap, ap₂, subst, sym, ◌∙◌, arith, append_assoc, append-nil, length-append}
+use Rattle.std.proofs.Common.{◌≡◌, ℕ, zero, suc, ◌+◌, ◌-◌, List, [], ◌++◌, Option, Some, length, take, drop, refl, ap, ap₂, sym, ◌∙◌, arith, append_assoc, append-nil, length-append}
 use Rattle.std.proofs.lemmas.List.{take_at, drop_at}
 use Rattle.lan_levels.specs.PlainSlots.{PlainSlot}
 use Rattle.lan_levels.specs.ZipForm.{PlainForm}

@@ -1,7 +1,5 @@
 -- The places of rows in a full-zip page.
-use Rattle.std.proofs.Common.{◌≡◌, ◌==◌, not, ℕ, zero, suc, ◌+◌, ◌-◌, ◌*◌, ◌/◌, ◌%◌, ◌^◌, ◌<◌, ◌≤◌, Bool, true, false, cond, List, [], ◌∷◌, ◌++◌, Option, Some, None, inl, inr, length, take, drop, slice_get, refl, ap, ap₂, subst, sym, ◌∙◌, arith, length-append, length-drop, length-take, append_assoc, append-nil}
-use Rattle.std.proofs.lemmas.Bool.{ltb-false, le-ltb}
-use lib.Dec.{ltb}
+use Rattle.std.proofs.Common.{◌≡◌, ◌==◌, ℕ, zero, suc, ◌+◌, ◌-◌, ◌*◌, ◌<◌, ◌≤◌, Bool, true, false, cond, List, [], ◌∷◌, ◌++◌, Some, inl, inr, length, take, drop, refl, ap, ap₂, subst, sym, ◌∙◌, arith, length-append, length-take, append_assoc, append-nil}
 use Rattle.lan_model.specs.declared.tree.Layer.{Layer}
 use Rattle.lan_model.specs.declared.tree.Layer.TheVariants as layer
 use Rattle.lan_levels.specs.declared.slot.State.{State}
@@ -11,13 +9,13 @@ use Rattle.lan_levels.specs.PlainSlots.{PlainPiece, PlainSlot}
 use Rattle.lan_levels.specs.declared.shape.ValueForm.{ValueForm}
 use Rattle.lan_levels.specs.declared.shape.ValueForm.TheVariants as value
 use Rattle.lan_levels.specs.ZipForm.{PlainForm}
-use Rattle.lan_levels.specs.ZipSlots.{Valued, cut, level, slot, value_part, kept, is_bare, slot_value, word_number, with_value, with_state, with_word, first_slot, Part, spelled, starts, IsZip}
-use Rattle.lan_levels.proofs.ZipWalks.{spelled_none, spelled_more, opened}
+use Rattle.lan_levels.specs.ZipSlots.{spelled, starts, IsZip}
+use Rattle.lan_levels.proofs.ZipWalks.{spelled_none}
 use Rattle.lan_levels.specs.Stretch.{Stretch, bytes_in, cover}
 use Rattle.lan_levels.specs.Offsets.{AreOffsets}
 use Rattle.lan_levels.specs.Codes.{IsBare}
 use Rattle.lan_levels.specs.ZipSpelling.{ValueIs, BodyIs, SlotSpelled, AreSpelled}
-use Rattle.lan_levels.specs.Runs.{even, placed, run, IsIndex}
+use Rattle.lan_levels.specs.Runs.{even, run, IsIndex}
 use Rattle.lan_levels.specs.ZipRows.{slots_of_rows, slots_before, slot_place, row_place, ArePlaces, value_width, slot_width, IsSized, IsEven, HasPlaces, zip_runs, ZipPagesHavePieces}
 use Rattle.lan_levels.proofs.ZipSpelling.{parted, slots_front}
 use Rattle.lan_index.proofs.Segments.{part, split, join, spelled_local, place_is}

@@ -4,6 +4,13 @@
 mod fault;
 pub mod laws;
 mod offsets;
+mod reading;
+mod rows;
+mod run;
+mod words;
 
 pub use fault::IndexFault;
 pub use offsets::ZipIndex;
+pub use rows::RowIndex;
+pub use run::Run;
+pub use words::ChunkWords;

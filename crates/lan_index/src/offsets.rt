@@ -4,6 +4,7 @@ ghost use Rattle.lan_levels.specs.Runs.{placed, run};
 ghost use Rattle.lan_index.specs.Refusals.{Offsets, OffsetsStand, stretch};
 
 use crate::fault::IndexFault;
+use crate::reading::number;
 use lan_bytes::View;
 use lan_model::Range;
 use std::marker::Model;
@@ -88,9 +89,9 @@ fn check_offsets(places: &[u8], rows: u64, bytes: u64) -> Result<(), IndexFault>
 
 /// The place of that number, counted from 0.
 fn place(places: &[u8], n: u64) -> u64
-    requires { 8 * (n + 1) ≤ length places.now }
+    requires room { 8 * (n + 1) ≤ length places.now }
+    requires few { length places.now ≤ 2 ^ 63 }
     ensures { result ≡ place_at places.now n }
 {
-    let (_, b) = places.split_at(8 * n as usize);
-    u64::from_le_bytes([b[0], b[1], b[2], b[3], b[4], b[5], b[6], b[7]])
+    number(places, 8 * n)
 }

@@ -21,3 +21,4 @@ pub mod Offsets
 pub mod Stage
 pub mod Runs
 pub mod ZipRows
+pub mod Chunks

@@ -1,4 +1,4 @@
-use Rattle.std.proofs.Common.{◌≡◌, ◌-◌, ◌<◌, ◌≤◌}
+use Rattle.std.proofs.Common.{◌≡◌, ◌-◌, ◌<◌}
 use Rattle.lan_levels.specs.Offsets.{place_at, NoneFalls}
 use Rattle.lan_index.proofs.offsets.check_offsets.Given as goal
 

@@ -1,4 +1,4 @@
-use Rattle.std.proofs.Common.{◌≡◌, ◌<◌, ap, arith}
+use Rattle.std.proofs.Common.{◌<◌, ap, arith}
 use Rattle.lan_levels.specs.Runs.{placed}
 use Rattle.lan_index.specs.Refusals.{Offsets}
 use Rattle.lan_index.proofs.RunLemmas.{inside}

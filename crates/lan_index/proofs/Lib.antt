@@ -5,3 +5,4 @@ pub mod Segments
 pub mod RowSlots
 pub mod ZipPlaces
 pub mod ChunkLemmas
+pub mod ChunkRows

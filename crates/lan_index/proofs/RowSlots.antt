@@ -62,7 +62,7 @@ pub before_first : (lists : ℕ) (slots : List PlainSlot) → FirstBegins lists 
 before_first lists [] h = refl
 before_first lists (s ∷ slots) h = first_case (s.rep == lists) s (slots_before lists 0 slots) (eq-eqb s.rep lists h)
 
-starts_append : (lists : ℕ) (xs ys : List PlainSlot) → starts lists (xs ++ ys) ≡ starts lists xs + starts lists ys
+pub starts_append : (lists : ℕ) (xs ys : List PlainSlot) → starts lists (xs ++ ys) ≡ starts lists xs + starts lists ys
 starts_append lists [] ys = omega arith
 starts_append lists (x ∷ xs) ys = omega (arith, starts_append lists xs ys)
 
@@ -71,7 +71,7 @@ begins_case : (b : Bool) (lists : ℕ) (s : PlainSlot) (slots : List PlainSlot) 
 begins_case true lists s slots e h = eqb-true s.rep lists e
 begins_case false lists s slots e h = h
 
-behind_begins : (lists row : ℕ) (slots : List PlainSlot) → FirstBegins lists (drop (length (slots_before lists row slots)) slots)
+pub behind_begins : (lists row : ℕ) (slots : List PlainSlot) → FirstBegins lists (drop (length (slots_before lists row slots)) slots)
 behind_begins lists row [] = tt
 behind_begins lists zero (s ∷ slots) =
     begins_case (s.rep == lists) lists s slots refl (behind_begins lists 0 slots)
@@ -131,12 +131,12 @@ take_nil : (n : ℕ) → ◌≡◌ {A = List PlainSlot} (take n []) []
 take_nil zero = refl
 take_nil (suc n) = refl
 
-take_plus : (i k : ℕ) (xs : List PlainSlot) → take (i + k) xs ≡ take i xs ++ take k (drop i xs)
+pub take_plus : (i k : ℕ) (xs : List PlainSlot) → take (i + k) xs ≡ take i xs ++ take k (drop i xs)
 take_plus zero k xs = let none : 0 + k ≡ k = omega arith in ap (λ (n : ℕ). take n xs) none
 take_plus (suc i) k [] = take_nil (suc i + k) ∙ sym (take_nil k)
 take_plus (suc i) k (x ∷ xs) = let count : suc i + k ≡ suc (i + k) = omega arith in ap (λ (n : ℕ). take n (x ∷ xs)) count ∙ ap (λ (ss : List PlainSlot). x ∷ ss) (take_plus i k xs)
 
-begins_take : (lists k : ℕ) (slots : List PlainSlot) → FirstBegins lists slots → FirstBegins lists (take k slots)
+pub begins_take : (lists k : ℕ) (slots : List PlainSlot) → FirstBegins lists slots → FirstBegins lists (take k slots)
 begins_take lists zero slots h = tt
 begins_take lists (suc k) [] h = tt
 begins_take lists (suc k) (s ∷ slots) h = h

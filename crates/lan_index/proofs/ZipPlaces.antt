@@ -44,7 +44,7 @@ before_zero_case true s front slots n h e = absurd (omega arith)
 before_zero_case false s front slots n h e = ap (λ (ss : List PlainSlot). s ∷ ss) e
 
 -- before a row behind all stand all slots
-before_all : (lists row : ℕ) (slots : List PlainSlot) → starts lists slots ≤ row → slots_before lists row slots ≡ slots
+pub before_all : (lists row : ℕ) (slots : List PlainSlot) → starts lists slots ≤ row → slots_before lists row slots ≡ slots
 before_all lists row [] h = refl
 before_all lists zero (s ∷ slots) h = before_zero_case (s.rep == lists) s (slots_before lists 0 slots) slots (starts lists slots) h (before_all lists 0 slots (omega arith))
 before_all lists (suc row) (s ∷ slots) h = ap (λ (ss : List PlainSlot). s ∷ ss) (before_all_case (s.rep == lists) lists row s slots refl h (λ n k. before_all lists n slots k))
@@ -57,7 +57,7 @@ place_order f i j all slots e le within =
     let same = ap (λ (n : ℕ). slot_place f n all) last in
     omega arith
 
-before_within : (lists row : ℕ) (slots : List PlainSlot) → length (slots_before lists row slots) ≤ length slots
+pub before_within : (lists row : ℕ) (slots : List PlainSlot) → length (slots_before lists row slots) ≤ length slots
 before_within lists row slots = let e = ap (length {A = PlainSlot}) (before_take lists row slots) in omega (arith, length-take (length (slots_before lists row slots)) slots)
 
 -- a later row begins no earlier

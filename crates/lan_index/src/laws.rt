@@ -1,5 +1,6 @@
 ghost use Rattle.lan_levels.specs.Past.{CoversAreLeast, EachPieceEnds};
 ghost use Rattle.lan_levels.specs.Pieces.{EachRowIsRead};
+ghost use Rattle.lan_index.specs.ChunkLaws.{RowsAreIndexed, RunsHoldRows};
 ghost use Rattle.lan_levels.specs.ZipRows.{ZipPagesHavePieces};
 
 /// A law of the definitions: where a piece ends, and how long it is at most.
@@ -21,4 +22,15 @@ pub fn each_row_is_read()
 /// and the cover of successive rows those of theirs.
 pub fn zip_pages_have_pieces()
     ensures { ZipPagesHavePieces }
+{}
+
+/// A law of the definitions: where the index of rows says what the slots in the chunks do, the run of
+/// a row is from the chunk of its first slot to that of its last, with the row starts to skip.
+pub fn runs_hold_rows()
+    ensures { RunsHoldRows }
+{}
+
+/// A law of the definitions: what the slots of rows say of their chunks is an index of these rows.
+pub fn rows_are_indexed()
+    ensures { RowsAreIndexed }
 {}

@@ -22,3 +22,4 @@ pub mod Stage
 pub mod Runs
 pub mod ZipRows
 pub mod Chunks
+pub mod ChunkRows

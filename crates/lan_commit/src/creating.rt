@@ -1,10 +1,10 @@
 // A new dataset.
-ghost use Rattle.std.specs.Prelude.{◌≡◌, ◌∷◌, ℕ, [], map, Some, IsErrOf};
+ghost use Rattle.std.specs.Prelude.{◌≡◌, ◌≤◌, ◌∷◌, ℕ, [], map, Some, IsErrOf};
 ghost use Rattle.std.specs.Option.{ForSome};
 ghost use Rattle.lan_model.specs.Plain.{plain_field};
 ghost use Rattle.lan_store.specs.declared.name.Name.{Name};
 ghost use Rattle.lan_store.specs.Causes.{HasCause};
-ghost use Rattle.lan_commit.specs.Creates.{Creates};
+ghost use Rattle.lan_commit.specs.Creates.{Creates, PreparesCreate};
 ghost use Rattle.lan_commit.specs.First.{first_object, first_limit};
 ghost use Rattle.lan_commit.specs.Prepares.{JudgesLimit};
 
@@ -23,16 +23,30 @@ pub fn create<S: Store>(alloc: Global, store: &mut S, fields: FieldList) -> Resu
     ensures told { (name : Name) → IsErrOf result (CommitFault.Store name) → ForSome (S.objects store.old) (λ _. S.failed store.new ≡ Some name) }
     ensures clashes { HasCause ((name : Name) × IsErrOf result (CommitFault.Raced name)) (S.clashes store.old) (S.clashes store.new) }
 {
-    match newest_version(alloc, store) {
-        Ok(None) => {}
-        Ok(Some(version)) => return Err(CommitFault::AlreadyThere(version)),
-        Err(ListFault::Failed) => return Err(CommitFault::Store(folder_of(alloc, Dir::Versions))),
-        Err(ListFault::Memory) => return Err(CommitFault::Memory),
-    }
-    let objects = first_objects(alloc, fields)?;
+    let objects = prepare_create(alloc, store, fields)?;
     match commit(alloc, store, objects) {
         Ok(()) => Ok(1),
         Err(fault) => Err(fault),
+    }
+}
+
+/// The object of a new dataset of these fields without rows: its first manifest. Nothing is put.
+pub fn prepare_create<S: Store>(
+    alloc: Global,
+    store: &mut S,
+    fields: FieldList,
+) -> Result<Vec<Object>, CommitFault>
+    ensures kept { S.objects store.new ≡ S.objects store.old }
+    ensures prepares { PreparesCreate (map plain_field fields) (S.objects store.old) result }
+    ensures faults { HasCause ((name : Name) × IsErrOf result (CommitFault.Store name)) (S.faults store.old) (S.faults store.new) }
+    ensures told { (name : Name) → IsErrOf result (CommitFault.Store name) → ForSome (S.objects store.old) (λ _. S.failed store.new ≡ Some name) }
+    ensures clashes { S.clashes store.old ≤ S.clashes store.new }
+{
+    match newest_version(alloc, store) {
+        Ok(None) => first_objects(alloc, fields),
+        Ok(Some(version)) => Err(CommitFault::AlreadyThere(version)),
+        Err(ListFault::Failed) => Err(CommitFault::Store(folder_of(alloc, Dir::Versions))),
+        Err(ListFault::Memory) => Err(CommitFault::Memory),
     }
 }
 

@@ -34,3 +34,8 @@ pub fn appends_meet_no_name()
 pub fn first_manifests_stand()
     ensures { (old : List Object) (d : Dataset) (fields : List (PlainField ℕ)) → IsOneColumn fields → AreColumns (map unnumbered fields) → first_limit fields ≡ None → NoneListed old → Agrees old d → Agrees (old ++ first_object fields ∷ []) (with_version d 1 (no_rows fields)) }
 {}
+
+/// Where no version is listed, a new dataset's object meets no name that is held.
+pub fn first_manifests_meet_no_name()
+    ensures { (old : List Object) (fields : List (PlainField ℕ)) (k : ℕ) → NoneListed old → k < length (first_object fields ∷ []) → IsHeldAt k (first_object fields ∷ []) old → ⊥ }
+{}

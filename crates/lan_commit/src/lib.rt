@@ -10,8 +10,9 @@ mod objects;
 
 pub use appending::prepare_append;
 pub use committing::{CommitFault, commit};
-pub use creating::create;
+pub use creating::{create, prepare_create};
 pub use laws::{
-    appends_are_not_seen_before, appends_meet_no_name, appends_stand, first_manifests_stand,
+    appends_are_not_seen_before, appends_meet_no_name, appends_stand, first_manifests_meet_no_name,
+    first_manifests_stand,
 };
 pub use limits::Which;

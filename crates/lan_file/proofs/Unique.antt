@@ -9,8 +9,7 @@ use Rattle.lan_wire.specs.declared.item.Body.TheVariants.{Num, Eight, Four, Part
 use Rattle.lan_wire.specs.declared.item.Item.{Item}
 use Rattle.lan_wire.specs.Spelling.{num_item, num_field}
 use Rattle.lan_wire.specs.Spells.{Spells, numbered}
-use Rattle.lan_wire.proofs.SpellingLaws.{one_item}
-use Rattle.lan_wire.proofs.WrittenLaws.{number_spelled}
+use Rattle.lan_wire.proofs.LawTerms.{one_item, number_spelled}
 use Rattle.lan_model.specs.Plain.{PlainType, PlainField, PlainValue}
 use Rattle.lan_model.specs.Table.{FitsRow}
 use Rattle.lan_file.specs.declared.fault.FileReason.{FileReason}

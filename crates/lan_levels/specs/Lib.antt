@@ -14,3 +14,12 @@ pub mod ZipForm
 pub mod ZipSlots
 pub mod ZipWritten
 pub mod ZipSpelling
+pub mod Stretch
+pub mod Past
+pub mod Pieces
+pub mod Offsets
+pub mod Stage
+pub mod Runs
+pub mod ZipRows
+pub mod Chunks
+pub mod ChunkRows

@@ -1,83 +1,136 @@
--- Texts that go to a sink one after another, by way of bytes that wait.
-use Rattle.std.proofs.Common.{◌≡◌, refl, sym, ◌∙◌, ap, subst, ℕ, ◌+◌, ◌<◌, List, [], ◌∷◌, ◌++◌, length, get_or, take, drop, map, arith, append_assoc, length-append}
+-- The lines of rows that go to a sink one after another, by way of lines that wait.
+use Rattle.std.proofs.Common.{◌≡◌, refl, sym, ◌∙◌, ap, subst, ℕ, zero, suc, ◌+◌, ◌<◌, ◌≤◌, List, [], ◌∷◌, ◌++◌, length, get_or, take, drop, map, arith, append_assoc, length-append}
 use Rattle.std.specs.Prelude.{Option, Some, None, Result, Ok, Err, flat_map}
 use Rattle.std.proofs.lemmas.Grind.{flat_map-append}
-use Rattle.std.proofs.lemmas.List.{append-nil, map-append, map_more, take-append-drop}
-use Rattle.std.proofs.Math.Seq.{take-append_seam}
+use Rattle.std.proofs.lemmas.List.{append-nil, map-append, map_more, take-append-drop, take_all}
+use Rattle.lan_model.specs.Plain.{PlainValue}
 use Rattle.lan_store.specs.Streams.{and_then_bytes}
 use Rattle.lan_store.proofs.Told.{and_then_bytes-twice}
-use Rattle.lan_scan.specs.Sending.{GotPart, Sends, Passes}
+use Rattle.lan_scan.specs.Sending.{GotPart, Sends, Waits, Passes}
+use Rattle.lan_scan.specs.declared.sending.SendFault.{SendFault}
+use Rattle.lan_scan.specs.declared.sending.SendFault.TheVariants.{Write, Memory}
+
+abbrev pub Row : Type 0
+Row = List PlainValue
+
+-- ---- fronts of lists
+
+take_past : {X : Type 0} (xs ys : List X) (k : ℕ) → take (length xs + k) (xs ++ ys) ≡ xs ++ take k ys
+take_past [] ys k = let same : 0 + k ≡ k = omega arith in ap (λ n. take n ys) same
+take_past (x ∷ xs) ys k =
+    let same : length (x ∷ xs) + k ≡ suc (length xs + k) = omega arith in
+    ap (λ n. take n (x ∷ (xs ++ ys))) same ∙ ap (λ l. x ∷ l) (take_past xs ys k)
+
+take_within : {X : Type 0} (xs ys : List X) (k : ℕ) → k ≤ length xs → take k (xs ++ ys) ≡ take k xs
+take_within [] [] zero within = refl
+take_within [] (y ∷ ys) zero within = refl
+take_within [] ys (suc k) within = absurd (omega (arith, within))
+take_within (x ∷ xs) ys zero within = refl
+take_within (x ∷ xs) ys (suc k) within = ap (λ l. x ∷ l) (take_within xs ys k (omega (arith, within)))
+
+-- ---- what a sink got
 
 -- nothing more leaves what was told
 pub and_then_bytes-nil : (told : Option (List ℕ)) → told ≡ and_then_bytes told []
 and_then_bytes-nil None = refl
 and_then_bytes-nil (Some bytes) = ap (λ l. Some l) (sym (append-nil bytes))
 
--- the text waits behind the rest
-pub sends_later : (text waiting waits : List ℕ) (held : Option (List ℕ)) → waits ≡ waiting ++ text → Sends text waiting held held waits
-sends_later text waiting waits held is = record { sent = []; grew = and_then_bytes-nil held; whole = is }
-
--- one text and then another
-pub sends_then : (a b waiting middle rest : List ℕ) (held mid holds : Option (List ℕ)) → Sends a waiting held mid middle → Sends b middle mid holds rest → Sends (a ++ b) waiting held holds rest
-sends_then a b waiting middle rest held mid holds first second = record {
-  sent = first.sent ++ second.sent;
-  grew = second.grew ∙ ap (λ o. and_then_bytes o second.sent) first.grew ∙ and_then_bytes-twice held first.sent second.sent;
-  whole =
-      append_assoc first.sent second.sent rest ∙ ap (λ l. first.sent ++ l) second.whole ∙ sym (append_assoc first.sent middle b) ∙ ap (λ l. l ++ b) first.whole
-      ∙ append_assoc waiting a b;
-}
-
--- a front of a text is a front of a longer one
-pub sends_front : (a b waiting rest : List ℕ) (held holds : Option (List ℕ)) → Sends a waiting held holds rest → Sends (a ++ b) waiting held holds (rest ++ b)
-sends_front a b waiting rest held holds sends = sends_then a b waiting rest (rest ++ b) held holds holds sends (sends_later b rest (rest ++ b) holds refl)
-
--- all that was waiting is sent
-pub sends_all : (waiting text : List ℕ) (held holds : Option (List ℕ)) → text ≡ waiting → holds ≡ and_then_bytes held text → Sends [] waiting held holds []
-sends_all waiting text held holds is grew = record { sent = text; grew = grew; whole = ap (λ l. l ++ []) is }
-
--- a front of what was waiting is sent
-pub sends_part : (waiting text : List ℕ) (held holds : Option (List ℕ)) (k : ℕ) → text ≡ waiting → holds ≡ and_then_bytes held (take k text) → Sends [] waiting held holds (drop k text)
-sends_part waiting text held holds k is grew = record { sent = take k text; grew = grew; whole = take-append-drop k text ∙ is ∙ sym (append-nil waiting) }
-
--- what was appended to the waiting bytes is the text
-pub passes_waiting : {E : Type 0} (text waiting middle waits : List ℕ) (held holds : Option (List ℕ)) (result : Result Unit E) → middle ≡ waiting ++ text → Passes [] middle waits held holds result → Passes text waiting waits held holds result
-passes_waiting text waiting middle waits held holds (Ok u) is passes = record { sent = passes.sent; grew = passes.grew; whole = passes.whole ∙ append-nil middle ∙ is }
-passes_waiting text waiting middle waits held holds (Err fault) is (rest, passes) = (rest, record { sent = passes.sent; grew = passes.grew; whole = passes.whole ∙ append-nil middle ∙ is })
-
--- the lines of one item more
-pub lines_more : {X Y : Type 0} (line : Y → List ℕ) (f : X → Y) (xs : List X) (i : ℕ) (d : X) → i < length xs → flat_map line (map f (take (i + 1) xs)) ≡ flat_map line (map f (take i xs)) ++ line (f (get_or xs i d))
-lines_more line f xs i d below = ap (flat_map line) (map_more f xs i d below) ∙ flat_map-append line (map f (take i xs)) (f (get_or xs i d) ∷ []) ∙ ap (λ l. flat_map line (map f (take i xs)) ++ l) (append-nil (line (f (get_or xs i d))))
-
--- the lines of the first items are a front of all lines
-pub lines_front : {X Y : Type 0} (line : Y → List ℕ) (f : X → Y) (xs : List X) (i : ℕ) → flat_map line (map f xs) ≡ flat_map line (map f (take i xs)) ++ flat_map line (map f (drop i xs))
-lines_front line f xs i =
-    ap (λ l. flat_map line (map f l)) (sym (take-append-drop i xs)) ∙ ap (flat_map line) (map-append f (take i xs) (drop i xs)) ∙ flat_map-append line (map f (take i xs)) (map f (drop i xs))
-
--- one line more was passed on
-pub line_passed : {X Y : Type 0} (line : Y → List ℕ) (f : X → Y) (xs : List X) (i : ℕ) (d x : X) (waiting middle rest : List ℕ) (held mid holds : Option (List ℕ)) → i < length xs → x ≡ get_or xs i d
-    → Sends (flat_map line (map f (take i xs))) waiting held mid middle → Sends (line (f x)) middle mid holds rest → Sends (flat_map line (map f (take (i + 1) xs))) waiting held holds rest
-line_passed line f xs i d x waiting middle rest held mid holds below is first second =
-    subst (λ l. Sends l waiting held holds rest) (ap (λ l. flat_map line (map f (take i xs)) ++ line (f l)) is ∙ sym (lines_more line f xs i d below))
-    (sends_then (flat_map line (map f (take i xs))) (line (f x)) waiting middle rest held mid holds first second)
-
--- the lines stopped in this one
-pub lines_stopped : {X Y : Type 0} (line : Y → List ℕ) (f : X → Y) (xs : List X) (i : ℕ) (d x : X) (waiting middle rest : List ℕ) (held mid holds : Option (List ℕ)) → i < length xs → x ≡ get_or xs i d
-    → Sends (flat_map line (map f (take i xs))) waiting held mid middle → Sends (line (f x)) middle mid holds rest → (lost : List ℕ) × Sends (flat_map line (map f xs)) waiting held holds lost
-lines_stopped line f xs i d x waiting middle rest held mid holds below is first second =
-    let behind = flat_map line (map f (drop (i + 1) xs)) in (
-      rest ++ behind,
-      subst (λ l. Sends l waiting held holds (rest ++ behind)) (sym (lines_front line f xs (i + 1)))
-          (sends_front (flat_map line (map f (take (i + 1) xs))) behind waiting rest held holds (line_passed line f xs i d x waiting middle rest held mid holds below is first second)),
-    )
-
--- what was sent of a text is a front of it
-pub got_part : (text rest : List ℕ) (held holds : Option (List ℕ)) → Sends text [] held holds rest → GotPart text held holds
-got_part text rest held holds sends = (
-  length sends.sent,
-  omega (arith, ap length sends.whole, length-append sends.sent rest),
-  sends.grew ∙ ap (and_then_bytes held) (sym (take-append_seam sends.sent rest) ∙ ap (take (length sends.sent)) sends.whole),
+-- behind some bytes a front of a text
+pub got_behind : (a b : List ℕ) (held mid holds : Option (List ℕ)) → mid ≡ and_then_bytes held a → GotPart b mid holds → GotPart (a ++ b) held holds
+got_behind a b held mid holds is (k, within, grew) = (
+  length a + k,
+  omega (arith, within, length-append a b),
+  grew ∙ ap (λ o. and_then_bytes o (take k b)) is ∙ and_then_bytes-twice held a (take k b) ∙ ap (and_then_bytes held) (sym (take_past a b k)),
 )
 
--- where nothing is left, the whole text was sent
-pub got_all : (text : List ℕ) (held holds : Option (List ℕ)) → Sends text [] held holds [] → holds ≡ and_then_bytes held text
-got_all text held holds sends = sends.grew ∙ ap (and_then_bytes held) (sym (append-nil sends.sent) ∙ sends.whole)
+-- a front of a text is one of a longer text
+pub got_more : (a b : List ℕ) (held holds : Option (List ℕ)) → GotPart a held holds → GotPart (a ++ b) held holds
+got_more a b held holds (k, within, grew) = (k, omega (arith, within, length-append a b), grew ∙ ap (and_then_bytes held) (sym (take_within a b k within)))
+
+-- ---- rows one after another
+
+-- the rows wait behind the others
+pub sends_later : (line : Row → List ℕ) (rows pending : List Row) (held : Option (List ℕ)) → Sends line rows pending held held (pending ++ rows)
+sends_later line rows pending held = record { sent = []; grew = and_then_bytes-nil held; whole = refl }
+
+-- none more
+pub waits_none : (line : Row → List ℕ) (pending : List Row) (held : Option (List ℕ)) (waiting : List ℕ) → waiting ≡ flat_map line pending → Waits line [] pending held held waiting
+waits_none line pending held waiting is = record { rest = pending; sends = record { sent = []; grew = and_then_bytes-nil held; whole = sym (append-nil pending) }; lines = is }
+
+-- all that waited is sent
+pub sends_all : (line : Row → List ℕ) (pending : List Row) (text : List ℕ) (held holds : Option (List ℕ)) → text ≡ flat_map line pending → holds ≡ and_then_bytes held text → Sends line [] pending held holds []
+sends_all line pending text held holds is grew = record { sent = pending; grew = grew ∙ ap (and_then_bytes held) is; whole = refl }
+
+-- some rows and then others
+pub sends_then : (line : Row → List ℕ) (a b pending middle rest : List Row) (held mid holds : Option (List ℕ)) → Sends line a pending held mid middle → Sends line b middle mid holds rest → Sends line (a ++ b) pending held holds rest
+sends_then line a b pending middle rest held mid holds first second = record {
+  sent = first.sent ++ second.sent;
+  grew =
+      second.grew ∙ ap (λ o. and_then_bytes o (flat_map line second.sent)) first.grew ∙ and_then_bytes-twice held (flat_map line first.sent) (flat_map line second.sent)
+      ∙ ap (and_then_bytes held) (sym (flat_map-append line first.sent second.sent));
+  whole = append_assoc first.sent second.sent rest ∙ ap (λ l. first.sent ++ l) second.whole ∙ sym (append_assoc first.sent middle b) ∙ ap (λ l. l ++ b) first.whole ∙ append_assoc pending a b;
+}
+
+-- the first rows of more
+pub sends_front : (line : Row → List ℕ) (a b pending rest : List Row) (held holds : Option (List ℕ)) → Sends line a pending held holds rest → Sends line (a ++ b) pending held holds (rest ++ b)
+sends_front line a b pending rest held holds sends = sends_then line a b pending rest (rest ++ b) held holds holds sends (sends_later line b rest holds)
+
+-- a front of the lines that waited and of those behind them
+pub got_after : (line : Row → List ℕ) (a b pending middle : List Row) (held mid holds : Option (List ℕ)) → Sends line a pending held mid middle → GotPart (flat_map line (middle ++ b)) mid holds → GotPart (flat_map line (pending ++ (a ++ b))) held holds
+got_after line a b pending middle held mid holds first got =
+    let whole : first.sent ++ (middle ++ b) ≡ pending ++ (a ++ b) = sym (append_assoc first.sent middle b) ∙ ap (λ l. l ++ b) first.whole ∙ append_assoc pending a b in
+    subst (λ (l : List Row). GotPart (flat_map line l) held holds) whole
+    (subst (λ l. GotPart l held holds) (sym (flat_map-append line first.sent (middle ++ b))) (got_behind (flat_map line first.sent) (flat_map line (middle ++ b)) held mid holds first.grew got))
+
+-- ---- one row more
+
+pub lines_more : (line : Row → List ℕ) (row : Row) (pending : List Row) (before : List ℕ) → before ≡ flat_map line pending → before ++ line row ≡ flat_map line (pending ++ row ∷ [])
+lines_more line row pending before is = ap (λ l. l ++ line row) is ∙ ap (λ l. flat_map line pending ++ l) (sym (append-nil (line row))) ∙ sym (flat_map-append line pending (row ∷ []))
+
+-- its line waits behind the others
+pub row_waits : (line : Row → List ℕ) (row : Row) (pending : List Row) (held : Option (List ℕ)) (before waiting : List ℕ) → before ≡ flat_map line pending → waiting ≡ before ++ line row → Waits line (row ∷ []) pending held held waiting
+row_waits line row pending held before waiting is grew = record { rest = pending ++ row ∷ []; sends = sends_later line (row ∷ []) pending held; lines = grew ∙ lines_more line row pending before is }
+
+-- what was passed on with the row among those that wait
+pub passes_row : (line : Row → List ℕ) (row : Row) (pending : List Row) (waiting : List ℕ) (held holds : Option (List ℕ)) (result : Result Unit SendFault) → Passes line [] (pending ++ row ∷ []) waiting held holds result → Passes line (row ∷ []) pending waiting held holds result
+passes_row line row pending waiting held holds (Ok u) w = record { rest = w.rest; sends = record { sent = w.sends.sent; grew = w.sends.grew; whole = w.sends.whole ∙ append-nil (pending ++ row ∷ []) }; lines = w.lines }
+passes_row line row pending waiting held holds (Err Write) got = subst (λ (l : List Row). GotPart (flat_map line l) held holds) (append-nil (pending ++ row ∷ [])) got
+passes_row line row pending waiting held holds (Err Memory) (rest, sends) = (rest, record { sent = sends.sent; grew = sends.grew; whole = sends.whole ∙ append-nil (pending ++ row ∷ []) })
+
+-- ---- the rows of a list
+
+-- one row more was passed on
+pub row_passed : {X : Type 0} (line : Row → List ℕ) (f : X → Row) (xs : List X) (i : ℕ) (d x : X) (pending : List Row) (middle waiting : List ℕ) (held mid holds : Option (List ℕ)) → i < length xs → x ≡ get_or xs i d → (before : Waits line (map f (take i xs)) pending held mid middle)
+    → Waits line (f x ∷ []) before.rest mid holds waiting → Waits line (map f (take (i + 1) xs)) pending held holds waiting
+row_passed line f xs i d x pending middle waiting held mid holds below is before here = record {
+  rest = here.rest;
+  sends =
+      subst (λ l. Sends line l pending held holds here.rest) (ap (λ y. map f (take i xs) ++ f y ∷ []) is ∙ sym (map_more f xs i d below))
+      (sends_then line (map f (take i xs)) (f x ∷ []) pending before.rest here.rest held mid holds before.sends here.sends);
+  lines = here.lines;
+}
+
+-- the rows in two parts
+parts_are : {X : Type 0} (f : X → Row) (xs : List X) (i : ℕ) (d x : X) → i < length xs → x ≡ get_or xs i d → map f xs ≡ (map f (take i xs) ++ f x ∷ []) ++ map f (drop (i + 1) xs)
+parts_are f xs i d x below is =
+    ap (λ l. map f l) (sym (take-append-drop (i + 1) xs)) ∙ map-append f (take (i + 1) xs) (drop (i + 1) xs) ∙ ap (λ l. l ++ map f (drop (i + 1) xs)) (map_more f xs i d below ∙ ap (λ y. map f (take i xs) ++ f y ∷ []) (sym is))
+
+-- the rows stopped at this one
+pub rows_stopped : {X : Type 0} (line : Row → List ℕ) (f : X → Row) (xs : List X) (i : ℕ) (d x : X) (pending : List Row) (middle waiting last : List ℕ) (held mid holds : Option (List ℕ)) (fault : SendFault) → i < length xs → x ≡ get_or xs i d → (before : Waits line (map f (take i xs)) pending held mid middle)
+    → Passes line (f x ∷ []) before.rest waiting mid holds (Err fault) → Passes line (map f xs) pending last held holds (Err fault)
+rows_stopped line f xs i d x pending middle waiting last held mid holds Write below is before got =
+    let front = got_after line (map f (take i xs)) (f x ∷ []) pending before.rest held mid holds before.sends got in
+    let behind = map f (drop (i + 1) xs) in
+    let whole : (pending ++ (map f (take i xs) ++ f x ∷ [])) ++ behind ≡ pending ++ map f xs = append_assoc pending (map f (take i xs) ++ f x ∷ []) behind ∙ ap (λ l. pending ++ l) (sym (parts_are f xs i d x below is)) in
+    subst (λ (l : List Row). GotPart (flat_map line l) held holds) whole
+    (subst (λ l. GotPart l held holds) (sym (flat_map-append line (pending ++ (map f (take i xs) ++ f x ∷ [])) behind)) (got_more (flat_map line (pending ++ (map f (take i xs) ++ f x ∷ []))) (flat_map line behind) held holds front))
+rows_stopped line f xs i d x pending middle waiting last held mid holds Memory below is before (rest, sends) =
+    let behind = map f (drop (i + 1) xs) in (
+      rest ++ behind,
+      subst (λ l. Sends line l pending held holds (rest ++ behind)) (sym (parts_are f xs i d x below is))
+          (sends_front line (map f (take i xs) ++ f x ∷ []) behind pending rest held holds (sends_then line (map f (take i xs)) (f x ∷ []) pending before.rest rest held mid holds before.sends sends)),
+    )
+
+-- all rows were passed on
+pub rows_passed : {X : Type 0} (line : Row → List ℕ) (f : X → Row) (xs : List X) (i : ℕ) (pending : List Row) (waiting : List ℕ) (held holds : Option (List ℕ)) → length xs ≤ i → Waits line (map f (take i xs)) pending held holds waiting → Waits line (map f xs) pending held holds waiting
+rows_passed line f xs i pending waiting held holds ended waits = subst (λ l. Waits line (map f l) pending held holds waiting) (take_all i xs ended) waits

@@ -1,18 +1,28 @@
--- How a text goes to a sink, by way of bytes that wait for the next write.
-use Rattle.std.specs.Prelude.{◌≡◌, ℕ, ◌≤◌, List, ◌++◌, length, take, Option, Result, Ok, Err}
+-- How the lines of rows go to a sink, by way of bytes that wait for the next write.
+use Rattle.std.specs.Prelude.{◌≡◌, ℕ, ◌≤◌, List, ◌++◌, length, take, flat_map, Option, Result, Ok, Err}
+use Rattle.lan_model.specs.Plain.{PlainValue}
 use Rattle.lan_store.specs.Streams.{and_then_bytes}
+use Rattle.lan_scan.specs.declared.sending.SendFault.{SendFault}
+use Rattle.lan_scan.specs.declared.sending.SendFault.TheVariants.{Write, Memory}
 
 -- the sink got a front of the text
 abbrev pub GotPart : List ℕ → Option (List ℕ) → Option (List ℕ) → Type 0
 GotPart text held holds = (k : ℕ) × (k ≤ length text) × (holds ≡ and_then_bytes held (take k text))
 
--- of what was waiting and the text behind it the sink got a front, and this is the rest
-pub record Sends (text waiting : List ℕ) (held holds : Option (List ℕ)) (rest : List ℕ) : Type 0 where
-  pub sent : List ℕ
-  pub grew : holds ≡ and_then_bytes held sent
-  pub whole : sent ++ rest ≡ waiting ++ text
+-- of the rows whose lines were waiting and those behind them the sink got the lines of the first, and the others are the rest
+pub record Sends (line : List PlainValue → List ℕ) (rows pending : List (List PlainValue)) (held holds : Option (List ℕ)) (rest : List (List PlainValue)) : Type 0 where
+  pub sent : List (List PlainValue)
+  pub grew : holds ≡ and_then_bytes held (flat_map line sent)
+  pub whole : sent ++ rest ≡ pending ++ rows
 
--- after an Ok the rest is waiting
-abbrev pub Passes : {E : Type 0} → List ℕ → List ℕ → List ℕ → Option (List ℕ) → Option (List ℕ) → Result Unit E → Type 0
-Passes text waiting waits held holds (Ok _) = Sends text waiting held holds waits
-Passes text waiting waits held holds (Err fault) = (rest : List ℕ) × Sends text waiting held holds rest
+-- and the lines of the rest are waiting
+pub record Waits (line : List PlainValue → List ℕ) (rows pending : List (List PlainValue)) (held holds : Option (List ℕ)) (waiting : List ℕ) : Type 0 where
+  pub rest : List (List PlainValue)
+  pub sends : Sends line rows pending held holds rest
+  pub lines : waiting ≡ flat_map line rest
+
+-- the lines of rows were passed on behind those that waited; only a failed write cuts a line
+abbrev pub Passes : (List PlainValue → List ℕ) → List (List PlainValue) → List (List PlainValue) → List ℕ → Option (List ℕ) → Option (List ℕ) → Result Unit SendFault → Type 0
+Passes line rows pending waiting held holds (Ok _) = Waits line rows pending held holds waiting
+Passes line rows pending waiting held holds (Err Write) = GotPart (flat_map line (pending ++ rows)) held holds
+Passes line rows pending waiting held holds (Err Memory) = (rest : List (List PlainValue)) × Sends line rows pending held holds rest

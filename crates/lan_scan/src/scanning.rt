@@ -1,10 +1,10 @@
 // The rows of a version, fragment by fragment.
-ghost use Rattle.std.specs.Prelude.{◌≡◌, ◌≤◌, ℕ, Some, All, IsErrOf, map};
+ghost use Rattle.std.specs.Prelude.{◌≡◌, ◌≤◌, ℕ, List, [], flat_map, Some, All, IsErrOf, map};
 ghost use Rattle.std.specs.Option.{ForSome};
 ghost use Rattle.lan_store.specs.declared.name.Name.{Name};
 ghost use Rattle.lan_store.specs.Causes.{HasCause};
 ghost use Rattle.lan_rows.specs.Line.{line_of};
-ghost use Rattle.lan_model.specs.Plain.{plain_field};
+ghost use Rattle.lan_model.specs.Plain.{PlainValue, plain_field};
 ghost use Rattle.lan_model.specs.PlainTable.{column_of};
 ghost use Rattle.lan_manifest.specs.Manifests.{plain_manifest};
 ghost use Rattle.lan_manifest.specs.Stage.{IsOneColumn, IsOneFile};
@@ -57,8 +57,8 @@ pub fn print_table<S: Store, O: Sink>(
     requires { IsOpened (plain_manifest manifest.now) }
     ensures kept { S.objects store.new ≡ S.objects store.old }
 
-    // The sink got the lines of all rows; or the reason stands in a data file; or the sink got a front
-    // of the lines.
+    // The sink got the lines of all rows, or the first of them: whole lines, unless a write failed. A
+    // reason stands in a data file.
     ensures scans { ForSome (S.objects store.old) (λ all. Scans all (plain_manifest manifest.now) (O.held out.old) (O.held out.new) result) }
 
     ensures store_cause { HasCause ((name : Name) × IsErrOf result (ScanFault.Store name)) (S.faults store.old) (S.faults store.new) }
@@ -86,8 +86,9 @@ fn print_fragments<S: Store, O: Sink>(
 ) -> Result<(), ScanFault>
     requires column { IsOneColumn (plain_manifest manifest.now).fields }
     requires files { All IsOneFile manifest.now.fragments }
+    requires none { waiting.old ≡ [] }
     ensures kept { S.objects store.new ≡ S.objects store.old }
-    ensures prints { ForSome (S.objects store.old) (λ all. PrintsAll all (plain_manifest manifest.now) (line_of (map column_of printer.old)) waiting.old waiting.new (O.held out.old) (O.held out.new) result) }
+    ensures prints { ForSome (S.objects store.old) (λ all. PrintsAll all (plain_manifest manifest.now) (line_of (map column_of printer.old)) waiting.new (O.held out.old) (O.held out.new) result) }
     ensures store_cause { HasCause ((name : Name) × IsErrOf result (ScanFault.Store name)) (S.faults store.old) (S.faults store.new) }
     ensures store_name { (name : Name) → IsErrOf result (ScanFault.Store name) → ForSome (S.objects store.old) (λ _. S.failed store.new ≡ Some name) }
     ensures clashes { S.clashes store.old ≤ S.clashes store.new }
@@ -121,7 +122,7 @@ fn print_fragment<S: Store, O: Sink>(
     requires column { IsOneColumn (map plain_field fields.now) }
     requires file { IsOneFile fragment.now }
     ensures kept { S.objects store.new ≡ S.objects store.old }
-    ensures prints { ForSome (S.objects store.old) (λ all. PrintsFragment all (map plain_field fields.now) fragment.now (line_of (map column_of printer.old)) waiting.old waiting.new (O.held out.old) (O.held out.new) result) }
+    ensures prints { (pending : List (List PlainValue)) → waiting.old ≡ flat_map (line_of (map column_of printer.old)) pending → ForSome (S.objects store.old) (λ all. PrintsFragment all (map plain_field fields.now) fragment.now (line_of (map column_of printer.old)) pending waiting.new (O.held out.old) (O.held out.new) result) }
     ensures store_cause { HasCause ((name : Name) × IsErrOf result (ScanFault.Store name)) (S.faults store.old) (S.faults store.new) }
     ensures store_name { (name : Name) → IsErrOf result (ScanFault.Store name) → ForSome (S.objects store.old) (λ _. S.failed store.new ≡ Some name) }
     ensures clashes { S.clashes store.old ≤ S.clashes store.new }

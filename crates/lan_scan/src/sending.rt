@@ -1,6 +1,6 @@
 // The lines of rows, to a sink by way of bytes that wait for the next write.
-ghost use Rattle.std.specs.Prelude.{◌≡◌, [], flat_map, map, OnOk, IsErrOf};
-ghost use Rattle.lan_model.specs.Plain.{plain_value};
+ghost use Rattle.std.specs.Prelude.{◌≡◌, ◌∷◌, ℕ, List, [], flat_map, map, OnOk, IsErrOf};
+ghost use Rattle.lan_model.specs.Plain.{PlainValue, plain_value};
 ghost use Rattle.lan_model.specs.PlainTable.{column_of, row_of};
 ghost use Rattle.lan_store.specs.Causes.{HasCause};
 ghost use Rattle.lan_rows.specs.Line.{line_of};
@@ -30,7 +30,7 @@ pub fn print_rows<O: Sink>(
     waiting: &mut Blob,
     out: &mut O,
 ) -> Result<(), SendFault>
-    ensures passes { Passes (flat_map (line_of (map column_of printer.old)) (map row_of rows.now)) waiting.old waiting.new (O.held out.old) (O.held out.new) result }
+    ensures passes { (pending : List (List PlainValue)) → waiting.old ≡ flat_map (line_of (map column_of printer.old)) pending → Passes (line_of (map column_of printer.old)) (map row_of rows.now) pending waiting.new (O.held out.old) (O.held out.new) result }
     ensures same { printer.new ≡ printer.old }
     ensures write_cause { HasCause (IsErrOf result SendFault.Write) (O.faults out.old) (O.faults out.new) }
 {
@@ -48,7 +48,7 @@ fn print_row<O: Sink>(
     waiting: &mut Blob,
     out: &mut O,
 ) -> Result<(), SendFault>
-    ensures passes { Passes (line_of (map column_of printer.old) (map plain_value row.now)) waiting.old waiting.new (O.held out.old) (O.held out.new) result }
+    ensures passes { (pending : List (List PlainValue)) → waiting.old ≡ flat_map (line_of (map column_of printer.old)) pending → Passes (line_of (map column_of printer.old)) (map plain_value row.now ∷ []) pending waiting.new (O.held out.old) (O.held out.new) result }
     ensures same { printer.new ≡ printer.old }
     ensures write_cause { HasCause (IsErrOf result SendFault.Write) (O.faults out.old) (O.faults out.new) }
 {
@@ -63,7 +63,7 @@ fn print_row<O: Sink>(
 
 // Writes what is waiting.
 fn flush<O: Sink>(waiting: &mut Blob, out: &mut O) -> Result<(), SendFault>
-    ensures passes { Passes [] waiting.old waiting.new (O.held out.old) (O.held out.new) result }
+    ensures passes { (line : List PlainValue → List ℕ) (pending : List (List PlainValue)) → waiting.old ≡ flat_map line pending → Passes line [] pending waiting.new (O.held out.old) (O.held out.new) result }
     ensures ok { OnOk result (waiting.new ≡ []) }
     ensures write_cause { HasCause (IsErrOf result SendFault.Write) (O.faults out.old) (O.faults out.new) }
 {

@@ -1,20 +1,14 @@
-use Rattle.std.proofs.Common.{map}
-use Rattle.lan_rows.specs.Line.{line_of}
-use Rattle.lan_model.specs.Plain.{plain_field}
-use Rattle.lan_model.specs.PlainTable.{column_of, row_of}
-use Rattle.lan_scan.proofs.Fragments.{fragment_stops, stops_before}
+use Rattle.std.proofs.Common.{map, inr}
+use Rattle.lan_model.specs.PlainTable.{row_of}
 use Rattle.lan_scan.proofs.scanning.print_fragment.Goals as goal
 
-pub returns-in-Err-Store-clause-prints : goal.returns-in-Err-Store-clause-prints
-returns-in-Err-Store-clause-prints g c = λ all told rows has. stops_before (line_of (map column_of c.args.printer.now)) rows c.args.waiting.now _
-
-pub returns-in-Err-Memory-clause-prints : goal.returns-in-Err-Memory-clause-prints
-returns-in-Err-Memory-clause-prints g c = λ all told rows has. stops_before (line_of (map column_of c.args.printer.now)) rows c.args.waiting.now _
+pub returns-in-Ok-print_rows-clause-prints : goal.returns-in-Ok-print_rows-clause-prints
+returns-in-Ok-print_rows-clause-prints g c = λ pending is all told. record { rows = map row_of c.in-Ok.rows; of_fragment = c.in-Ok.ensures.reads all told; waits = c.in-Ok-print_rows.ensures.passes pending is }
 
 pub returns-in-Err-Write-clause-prints : goal.returns-in-Err-Write-clause-prints
-returns-in-Err-Write-clause-prints g c = λ all told rows has.
-    fragment_stops all (map plain_field c.args.fields.now) c.args.fragment.now (line_of (map column_of c.args.printer.now)) (map row_of c.in-Ok.rows) rows c.args.waiting.now _ _ c.requires.column c.requires.file (c.in-Ok.ensures.reads all told) c.in-Err-Write.ensures.passes has
+returns-in-Err-Write-clause-prints g c = λ pending is all told. (map row_of c.in-Ok.rows, c.in-Ok.ensures.reads all told, (rw c.in-Err-Write.field-0-is at c.in-Err-Write.ensures.passes) pending is)
 
 pub returns-clause-prints : goal.returns-clause-prints
-returns-clause-prints g c = λ all told rows has.
-    fragment_stops all (map plain_field c.args.fields.now) c.args.fragment.now (line_of (map column_of c.args.printer.now)) (map row_of c.in-Ok.rows) rows c.args.waiting.now _ _ c.requires.column c.requires.file (c.in-Ok.ensures.reads all told) c.in-Err-Memory-print_rows.ensures.passes has
+returns-clause-prints g c = λ pending is all told.
+    let (rest, sends) = (rw c.in-Err-Memory-print_rows.field-0-is at c.in-Err-Memory-print_rows.ensures.passes) pending is in
+    inr (record { rows = map row_of c.in-Ok.rows; of_fragment = c.in-Ok.ensures.reads all told; rest = rest; sends = sends })

@@ -1,5 +1,5 @@
-use Rattle.std.proofs.Common.{◌≡◌, ◌∙◌, ◌<◌, ◌≤◌, List, ap, subst, length, get_or, map, arith, rules}
-use Rattle.std.specs.Prelude.{Err}
+use Rattle.std.proofs.Common.{◌≡◌, ◌∙◌, ◌<◌, ◌≤◌, List, ap, sym, subst, length, get_or, map, arith, rules, refl, []}
+use Rattle.std.specs.Prelude.{Ok, Err, flat_map}
 use Rattle.std.proofs.lemmas.List.{take_all}
 use Rattle.std.proofs.lemmas.Result.{err_from_is_err_and}
 use Rattle.lan_rows.specs.Line.{line_of}
@@ -10,7 +10,18 @@ use Rattle.lan_manifest.specs.declared.manifest.Fragment.{Fragment}
 use Rattle.lan_model.specs.declared.tree.Field.{Field}
 use Rattle.lan_scan.specs.Printing.{PrintsFragment}
 use Rattle.lan_scan.proofs.Fragments.{fragment_passed, prints_no_more}
+use Rattle.lan_scan.proofs.Lines.{waits_none}
 use Rattle.lan_scan.proofs.scanning.print_fragments.Goals as goal
+
+pub loop-fragment-init : goal.loop-fragment-init
+loop-fragment-init g c = record {
+  kept = refl;
+  prints = λ all told. record { rows = []; of_fragments = refl; waits = waits_none (line_of (map column_of c.args.printer.now)) [] (g.O.Sink.held c.args.out.now) c.args.waiting.now c.requires.none };
+  faults = search rules;
+  clashes = search rules;
+  same = search rules;
+  later = search rules;
+}
 
 pub returns-in_err-print_fragment-clause-prints : goal.returns-in_err-print_fragment-clause-prints
 returns-in_err-print_fragment-clause-prints g c = λ all told.
@@ -19,11 +30,13 @@ returns-in_err-print_fragment-clause-prints g c = λ all told.
     let below : i < length c.args.manifest.now.fragments = omega (arith, ap length c.as_slice-fragment-items.ensures) in
     let is : f ≡ get_or c.args.manifest.now.fragments i f = c.fragment-item.is ∙ ap (λ (l : List Fragment). get_or l i f) c.as_slice-fragment-items.ensures in
     let p = err_from_is_err_and c.from_residual.result c.from_residual.ensures.1 in
+    let before = c.loop-fragment.invariant.prints all told in
+    let rest = before.waits.rest in
+    let lines = before.waits.lines ∙ ap (λ (p : List Field). flat_map (line_of (map column_of p)) rest) (sym c.loop-fragment.invariant.same) in
+    let stops = c.in_err-print_fragment.ensures.prints rest lines all (c.loop-fragment.invariant.kept ∙ told) in
     rw (p.1, p.2)
-    (prints_no_more all (plain_manifest c.args.manifest.now) i f (line_of (map column_of c.args.printer.now)) c.args.waiting.now c.loop-fragment.waiting c.print_fragment.new.waiting _ _ _ c.in_err-print_fragment.field-0.0 c.requires.column c.requires.files below is
-    (c.loop-fragment.invariant.prints all told)
-    (subst (λ (p : List Field). PrintsFragment all (map plain_field c.args.manifest.now.fields) f (line_of (map column_of p)) c.loop-fragment.waiting c.print_fragment.new.waiting (g.O.Sink.held c.loop-fragment.out) (g.O.Sink.held c.print_fragment.new.out) (Err c.in_err-print_fragment.field-0.0)) c.loop-fragment.invariant.same
-    (c.in_err-print_fragment.ensures.prints all (c.loop-fragment.invariant.kept ∙ told))))
+    (prints_no_more all (plain_manifest c.args.manifest.now) i f (line_of (map column_of c.args.printer.now)) c.loop-fragment.waiting c.print_fragment.new.waiting c.print_fragment.new.waiting _ _ _ c.in_err-print_fragment.field-0.0 below is before
+    (subst (λ (p : List Field). PrintsFragment all (map plain_field c.args.manifest.now.fields) f (line_of (map column_of p)) rest c.print_fragment.new.waiting (g.O.Sink.held c.loop-fragment.out) (g.O.Sink.held c.print_fragment.new.out) (Err c.in_err-print_fragment.field-0.0)) c.loop-fragment.invariant.same stops))
 
 pub loop-fragment-preserved : goal.loop-fragment-preserved
 loop-fragment-preserved g c = record {
@@ -33,8 +46,9 @@ loop-fragment-preserved g c = record {
       let f = c.fragment-item.result in
       let below : i < length c.args.manifest.now.fragments = omega (arith, ap length c.as_slice-fragment-items.ensures) in
       let is : f ≡ get_or c.args.manifest.now.fragments i f = c.fragment-item.is ∙ ap (λ (l : List Fragment). get_or l i f) c.as_slice-fragment-items.ensures in
-      fragment_passed all (map plain_field c.args.manifest.now.fields) c.args.manifest.now.fragments i f (line_of (map column_of c.args.printer.now)) c.args.waiting.now c.loop-fragment.waiting c.print_fragment.new.waiting _ _ _ below is
-      (c.loop-fragment.invariant.prints all told) (rw c.loop-fragment.invariant.same at (c.in_ok-print_fragment.ensures.prints all (c.loop-fragment.invariant.kept ∙ told)));
+      let before = c.loop-fragment.invariant.prints all told in
+      fragment_passed all (map plain_field c.args.manifest.now.fields) c.args.manifest.now.fragments i f (line_of (map column_of c.args.printer.now)) c.loop-fragment.waiting c.print_fragment.new.waiting _ _ _ below is before
+      ((rw c.loop-fragment.invariant.same at c.in_ok-print_fragment.ensures.prints) before.waits.rest before.waits.lines all (c.loop-fragment.invariant.kept ∙ told));
   faults = search rules;
   clashes = search rules;
   same = c.print_fragment.ensures.same ∙ c.loop-fragment.invariant.same;

@@ -9,7 +9,7 @@ use Rattle.lan_scan.proofs.scanning.print_fragments.Given as goal
 abbrev pub invariant-loop-fragment : goal.invariant-loop-fragment
 invariant-loop-fragment g l = record {
   kept : g.S.Store.objects l.store ≡ g.S.Store.objects l.initial.store;
-  prints : ForSome (g.S.Store.objects l.initial.store) (λ all. SendsRows all (map plain_field l.manifest.fields) (take l.fragment-index l.manifest.fragments) (line_of (map column_of l.initial.printer)) l.initial.waiting (g.O.Sink.held l.initial.out) (g.O.Sink.held l.out) l.waiting);
+  prints : ForSome (g.S.Store.objects l.initial.store) (λ all. SendsRows all (map plain_field l.manifest.fields) (take l.fragment-index l.manifest.fragments) (line_of (map column_of l.initial.printer)) (g.O.Sink.held l.initial.out) (g.O.Sink.held l.out) l.waiting);
   faults : g.S.Store.faults l.initial.store ≤ g.S.Store.faults l.store;
   clashes : g.S.Store.clashes l.initial.store ≤ g.S.Store.clashes l.store;
   same : l.printer ≡ l.initial.printer;

@@ -3,9 +3,11 @@ use Rattle.std.proofs.Common.{◌≡◌, sym, ◌∙◌, ℕ, zero, suc, ◌+◌
 use Rattle.std.specs.Prelude.{slice_index}
 use Rattle.std.proofs.lemmas.Bool.{lt-ltb, le-ltb}
 use Rattle.lan_model.specs.declared.range.Span.{Span}
+use Rattle.std.proofs.lemmas.Nat.{pow_pos}
+use Rattle.lan_index.specs.Runs.{EndsAt}
 use Rattle.lan_index.proofs.PastLemmas.{either}
-use Rattle.lan_index.proofs.RunLemmas.{climbs}
-use Rattle.lan_levels.specs.Chunks.{ChunkKind, so_far, word_slots, word_bytes, slots_ahead, bytes_ahead, chunk_slots, chunk_of, AreChunks, rows_before, starts_at}
+use Rattle.lan_index.proofs.Climbs.{climbs}
+use Rattle.lan_levels.specs.Chunks.{ChunkKind, small_chunks, slots_log, so_far, word_slots, word_bytes, slots_ahead, bytes_ahead, chunk_slots, chunk_of, AreChunks, rows_before, starts_at}
 
 flip : {A B : Type 0} → A ⊎ B → B ⊎ A
 flip (inl a) = inr a
@@ -121,3 +123,25 @@ following kind words slots bytes n span h less e =
     let first = ap (λ (s : Span). s.first + s.slots) e in
     let at = ap (λ (s : Span). s.at + s.len) e in
     record { first_is = first ∙ next_slot words slots n less; at_is = at ∙ sym (so_more word_bytes words n); there = in_chunks kind words slots bytes (n + 1) h less }
+
+-- in the chunks behind the first, but the last, no row begins
+bare_by : (index : List ℕ) (count first past d : ℕ) → EndsAt index count first past → first + 1 + d + 1 ≤ past → rows_before index (first + 1 + d) ≡ rows_before index (first + 1)
+bare_by index count first past zero e le = let same : first + 1 + 0 ≡ first + 1 = omega arith in ap (rows_before index) same
+bare_by index count first past (suc d) e le =
+    let before = bare_by index count first past d e (omega arith) in
+    let none = e.bare (first + 1 + d) (omega arith) (omega arith) in
+    let more = rows_more index (first + 1 + d) in
+    let same : first + 1 + d + 1 ≡ first + 1 + suc d = omega arith in
+    let at = ap (rows_before index) same in
+    omega arith
+
+pub bare_all : (index : List ℕ) (count first past : ℕ) → EndsAt index count first past → first + 1 < past → rows_before index (past - 1) ≡ rows_before index (first + 1)
+bare_all index count first past e more =
+    let d = past - 1 - (first + 1) in
+    let same : first + 1 + d ≡ past - 1 = omega arith in
+    ap (rows_before index) (sym same) ∙ bare_by index count first past d e (omega arith)
+
+-- a chunk has slots
+pub some_slots : (words : List ℕ) (total bytes n : ℕ) → AreChunks small_chunks total bytes words → n < length words → (length words ≤ n + 1) ⊎ (n + 1 < length words) → 0 < chunk_slots words total n
+some_slots words total bytes n h less (inl last) = let here = is_last words total n last in let left = (in_chunks small_chunks words total bytes n h less).slots_left in omega arith
+some_slots words total bytes n h less (inr more) = let here = not_last words total n more in let some = pow_pos (slots_log (slice_index words n)) in omega arith

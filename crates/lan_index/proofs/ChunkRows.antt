@@ -1,20 +1,19 @@
 -- The rows in the slots of chunks.
 use Rattle.std.proofs.Common.{◌≡◌, ◌==◌, ℕ, zero, suc, ◌+◌, ◌-◌, ◌<◌, ◌≤◌, ◌⊎◌, inl, inr, Bool, true, false, cond, List, [], ◌∷◌, length, take, drop, refl, ap, subst, sym, ◌∙◌, arith, length-take, length-drop}
-use Rattle.std.specs.Prelude.{slice_index, nat_lt}
+use Rattle.std.specs.Prelude.{nat_lt}
 use Rattle.std.proofs.lemmas.Bool.{lt-ltb, le-ltb, eq-eqb, eqb-true}
 use Rattle.std.proofs.lemmas.List.{take_all}
-use Rattle.std.proofs.lemmas.Nat.{pow_pos}
 use Rattle.lan_levels.specs.PlainSlots.{PlainSlot}
 use Rattle.lan_levels.specs.ZipSlots.{starts, FirstBegins}
 use Rattle.lan_levels.specs.ZipRows.{slots_before}
-use Rattle.lan_levels.specs.Chunks.{small_chunks, word_slots, slots_log, slots_ahead, chunk_slots, AreChunks, rows_before, starts_at, lead_at, LeadFits}
+use Rattle.lan_levels.specs.Chunks.{small_chunks, word_slots, slots_ahead, chunk_slots, AreChunks, rows_before, starts_at, lead_at, LeadFits}
 use Rattle.lan_levels.specs.ChunkRows.{slots_of_chunk, SaysRows, row_at, IsIn}
 use Rattle.lan_index.specs.Runs.{EndsAt, RowEnds}
 use Rattle.lan_index.specs.ChunkLaws.{RunsHoldRows, RowsAreIndexed}
 use Rattle.lan_index.proofs.PastLemmas.{either}
 use Rattle.lan_index.proofs.RowSlots.{take_plus, starts_append, begins_take, behind_begins, before_take, before_starts, before_first}
 use Rattle.lan_index.proofs.ZipPlaces.{before_all, before_within}
-use Rattle.lan_index.proofs.ChunkLemmas.{so_none, rows_none, rows_more, rows_rise, in_chunks, next_slot, last_slot, not_last, is_last, chunk_within}
+use Rattle.lan_index.proofs.ChunkLemmas.{so_none, rows_none, rows_more, rows_rise, in_chunks, next_slot, last_slot, some_slots, bare_all, chunk_within}
 
 -- how many slots the first chunks have, so many of them
 abbrev edge : List ℕ → ℕ → ℕ → ℕ
@@ -170,28 +169,6 @@ skipped lists bytes row first words index slots h s k =
     let whole = ap (λ (n : ℕ). starts lists (take n slots)) place in
     let count = (begins lists row slots (omega arith)).count in
     omega arith
-
--- in the chunks behind the first, but the last, no row begins
-bare_by : (index : List ℕ) (count first past d : ℕ) → EndsAt index count first past → first + 1 + d + 1 ≤ past → rows_before index (first + 1 + d) ≡ rows_before index (first + 1)
-bare_by index count first past zero e le = let same : first + 1 + 0 ≡ first + 1 = omega arith in ap (rows_before index) same
-bare_by index count first past (suc d) e le =
-    let before = bare_by index count first past d e (omega arith) in
-    let none = e.bare (first + 1 + d) (omega arith) (omega arith) in
-    let more = rows_more index (first + 1 + d) in
-    let same : first + 1 + d + 1 ≡ first + 1 + suc d = omega arith in
-    let at = ap (rows_before index) same in
-    omega arith
-
-bare_all : (index : List ℕ) (count first past : ℕ) → EndsAt index count first past → first + 1 < past → rows_before index (past - 1) ≡ rows_before index (first + 1)
-bare_all index count first past e more =
-    let d = past - 1 - (first + 1) in
-    let same : first + 1 + d ≡ past - 1 = omega arith in
-    ap (rows_before index) (sym same) ∙ bare_by index count first past d e (omega arith)
-
--- a chunk has slots
-some_slots : (words : List ℕ) (total bytes n : ℕ) → AreChunks small_chunks total bytes words → n < length words → (length words ≤ n + 1) ⊎ (n + 1 < length words) → 0 < chunk_slots words total n
-some_slots words total bytes n h less (inl last) = let here = is_last words total n last in let left = (in_chunks small_chunks words total bytes n h less).slots_left in omega arith
-some_slots words total bytes n h less (inr more) = let here = not_last words total n more in let some = pow_pos (slots_log (slice_index words n)) in omega arith
 
 chunk_length : (words : List ℕ) (bytes n : ℕ) (slots : List PlainSlot) → AreChunks small_chunks (length slots) bytes words → n < length words → length (slots_of_chunk words slots n) ≡ chunk_slots words (length slots) n
 chunk_length words bytes n slots h less =

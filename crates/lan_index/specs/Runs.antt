@@ -1,5 +1,6 @@
 -- The chunks that hold a row or a slot, by the chunk words and the index of rows.
 use Rattle.std.specs.Prelude.{◌≡◌, ℕ, ◌+◌, ◌-◌, ◌<◌, ◌≤◌, ◌⊎◌, List, length, slice_index}
+use Rattle.lan_levels.specs.Stretch.{Stretch}
 use Rattle.lan_levels.specs.Chunks.{word_bytes, slots_ahead, bytes_ahead, chunk_slots, starts_at, lead_at, rows_before}
 use Rattle.lan_index.specs.declared.run.Run.{Run}
 
@@ -14,6 +15,10 @@ pub record Indexed : Type 0 where
   pub chunks : Chunked
   pub rows : ℕ
   pub index : List ℕ
+
+-- the bytes of the chunks
+abbrev pub extent : Run → Stretch
+extent run = record { from = run.at; past = run.at + run.len }
 
 -- the one chunk that has the slot, and how many of its slots stand before it
 pub record IsSlotRun (words : List ℕ) (slots slot : ℕ) (run : Run) : Type 0 where

@@ -123,6 +123,7 @@ impl<'a> ChunkWords<'a> {
     /// How many bytes, and how many slots, stand before the chunk of that number.
     pub fn front(&self, chunk: u64) -> (u64, u64)
         requires { chunk < length self.now.words }
+        ensures chunks { AreChunks small_chunks self.now.slots self.now.bytes self.now.words }
         ensures bytes { result.0 ≡ bytes_ahead self.now.words chunk }
         ensures slots { result.1 ≡ slots_ahead self.now.words chunk }
     {

@@ -6,7 +6,7 @@ use Rattle.lan_levels.specs.PlainSlots.{PlainSlot}
 use Rattle.lan_levels.specs.SlotsOf.{lists_in}
 use Rattle.lan_levels.specs.ZipForm.{PlainForm}
 use Rattle.lan_levels.specs.ZipSlots.{Part, spelled, IsZip}
-use Rattle.lan_levels.specs.Stretch.{Stretch, bytes_in, cover}
+use Rattle.lan_levels.specs.Stretch.{bytes_in, cover}
 use Rattle.lan_levels.specs.Offsets.{place_at}
 use Rattle.lan_levels.specs.Runs.{Runs, even, placed, run, IsIndex}
 

@@ -1,37 +1,36 @@
 -- The rows in the slots of chunks.
 use Rattle.std.proofs.Common.{◌≡◌, ◌==◌, ℕ, zero, suc, ◌+◌, ◌-◌, ◌<◌, ◌≤◌, ◌⊎◌, inl, inr, Bool, true, false, cond, List, [], ◌∷◌, length, take, drop, refl, ap, subst, sym, ◌∙◌, arith, length-take, length-drop}
-use Rattle.std.specs.Prelude.{slice_index, nat_lt}
+use Rattle.std.specs.Prelude.{nat_lt}
 use Rattle.std.proofs.lemmas.Bool.{lt-ltb, le-ltb, eq-eqb, eqb-true}
 use Rattle.std.proofs.lemmas.List.{take_all}
-use Rattle.std.proofs.lemmas.Nat.{pow_pos}
 use Rattle.lan_levels.specs.PlainSlots.{PlainSlot}
 use Rattle.lan_levels.specs.ZipSlots.{starts, FirstBegins}
 use Rattle.lan_levels.specs.ZipRows.{slots_before}
-use Rattle.lan_levels.specs.Chunks.{small_chunks, word_slots, slots_log, first_slot, chunk_slots, AreChunks, rows_before, starts_at, lead_at, LeadFits}
-use Rattle.lan_levels.specs.ChunkRows.{slots_in, SaysRows, row_at, IsIn}
+use Rattle.lan_levels.specs.Chunks.{small_chunks, word_slots, slots_ahead, chunk_slots, AreChunks, rows_before, starts_at, lead_at, LeadFits}
+use Rattle.lan_levels.specs.ChunkRows.{slots_of_chunk, SaysRows, row_at, IsIn}
 use Rattle.lan_index.specs.Runs.{EndsAt, RowEnds}
 use Rattle.lan_index.specs.ChunkLaws.{RunsHoldRows, RowsAreIndexed}
 use Rattle.lan_index.proofs.PastLemmas.{either}
 use Rattle.lan_index.proofs.RowSlots.{take_plus, starts_append, begins_take, behind_begins, before_take, before_starts, before_first}
 use Rattle.lan_index.proofs.ZipPlaces.{before_all, before_within}
-use Rattle.lan_index.proofs.ChunkLemmas.{so_none, rows_none, rows_more, rows_rise, in_chunks, next_slot, last_slot, not_last, is_last, chunk_within}
+use Rattle.lan_index.proofs.ChunkLemmas.{so_none, rows_none, rows_more, rows_rise, in_chunks, next_slot, last_slot, some_slots, bare_all, chunk_within}
 
 -- how many slots the first chunks have, so many of them
 abbrev edge : List ℕ → ℕ → ℕ → ℕ
-edge words total n = cond (nat_lt n (length words)) (first_slot words n) total
+edge words total n = cond (nat_lt n (length words)) (slots_ahead words n) total
 
-edge_in : (words : List ℕ) (total n : ℕ) → n < length words → edge words total n ≡ first_slot words n
-edge_in words total n less = ap (λ (b : Bool). cond b (first_slot words n) total) (lt-ltb n (length words) less)
+edge_in : (words : List ℕ) (total n : ℕ) → n < length words → edge words total n ≡ slots_ahead words n
+edge_in words total n less = ap (λ (b : Bool). cond b (slots_ahead words n) total) (lt-ltb n (length words) less)
 
 edge_past : (words : List ℕ) (total n : ℕ) → length words ≤ n → edge words total n ≡ total
-edge_past words total n le = ap (λ (b : Bool). cond b (first_slot words n) total) (le-ltb n (length words) le)
+edge_past words total n le = ap (λ (b : Bool). cond b (slots_ahead words n) total) (le-ltb n (length words) le)
 
-edge_case : (words : List ℕ) (total bytes n : ℕ) → AreChunks small_chunks total bytes words → n < length words → (length words ≤ n + 1) ⊎ (n + 1 < length words) → first_slot words n + chunk_slots words total n ≡ edge words total (n + 1)
+edge_case : (words : List ℕ) (total bytes n : ℕ) → AreChunks small_chunks total bytes words → n < length words → (length words ≤ n + 1) ⊎ (n + 1 < length words) → slots_ahead words n + chunk_slots words total n ≡ edge words total (n + 1)
 edge_case words total bytes n h less (inl last) = last_slot words total n (in_chunks small_chunks words total bytes n h less).slots_left last ∙ sym (edge_past words total (n + 1) last)
 edge_case words total bytes n h less (inr more) = next_slot words total n more ∙ sym (edge_in words total (n + 1) more)
 
 -- where a chunk ends, the next begins, or all end
-edge_next : (words : List ℕ) (total bytes n : ℕ) → AreChunks small_chunks total bytes words → n < length words → first_slot words n + chunk_slots words total n ≡ edge words total (n + 1)
+edge_next : (words : List ℕ) (total bytes n : ℕ) → AreChunks small_chunks total bytes words → n < length words → slots_ahead words n + chunk_slots words total n ≡ edge words total (n + 1)
 edge_next words total bytes n h less = edge_case words total bytes n h less (either (length words) (n + 1))
 
 starts_more : (lists k m : ℕ) (slots : List PlainSlot) → starts lists (take (k + m) slots) ≡ starts lists (take k slots) + starts lists (take m (drop k slots))
@@ -62,11 +61,11 @@ rows_are lists words index bytes slots (suc n) h s le =
     let one : suc n ≡ n + 1 = omega arith in
     let less : n < length words = omega arith in
     let before = rows_are lists words index bytes slots n h s (omega arith) in
-    let here : edge words total n ≡ first_slot words n = edge_in words total n less in
+    let here : edge words total n ≡ slots_ahead words n = edge_in words total n less in
     let front = ap (λ (k : ℕ). starts lists (take k slots)) here in
     let more = rows_more index n in
     let begin = s.begin n less in
-    let both = starts_more lists (first_slot words n) (chunk_slots words total n) slots in
+    let both = starts_more lists (slots_ahead words n) (chunk_slots words total n) slots in
     let end = ap (λ (k : ℕ). starts lists (take k slots)) (edge_next words total bytes n h less) in
     let goal : rows_before index (n + 1) ≡ starts lists (take (edge words total (n + 1)) slots) = omega arith in
     ap (rows_before index) one ∙ goal ∙ ap (λ (k : ℕ). starts lists (take (edge words total k) slots)) (sym one)
@@ -119,8 +118,8 @@ behind lists row k slots le fits few = behind_case lists row k slots le fits few
 record Known (lists : ℕ) (words index : List ℕ) (slots : List PlainSlot) (row first : ℕ) : Type 0 where
   within : first < length words
   fits : row + 1 ≤ starts lists slots
-  from : first_slot words first ≤ row_at lists row slots
-  before : row_at lists row slots < first_slot words first + chunk_slots words (length slots) first
+  from : slots_ahead words first ≤ row_at lists row slots
+  before : row_at lists row slots < slots_ahead words first + chunk_slots words (length slots) first
   later : row_at lists row slots < row_at lists (row + 1) slots
 
 known : (lists bytes row first : ℕ) (words index : List ℕ) (slots : List PlainSlot) → AreChunks small_chunks (length slots) bytes words → SaysRows lists words index slots → first < length words
@@ -134,7 +133,7 @@ known lists bytes row first words index slots h s less from before =
     let all = starts_all lists (edge words total (first + 1)) slots in
     let left = (in_chunks small_chunks words total bytes first h less).slots_left in
     let down : row_at lists row slots < edge words total (first + 1) = among lists row (edge words total (first + 1)) slots (omega arith) (omega arith) in
-    let up : first_slot words first ≤ row_at lists row slots = behind lists row (first_slot words first) slots (omega arith) (omega arith) (omega arith) in
+    let up : slots_ahead words first ≤ row_at lists row slots = behind lists row (slots_ahead words first) slots (omega arith) (omega arith) (omega arith) in
     let fits : row + 1 ≤ starts lists slots = omega arith in
     let count = (begins lists (row + 1) slots fits).count in
     record {
@@ -153,11 +152,11 @@ take_take (suc n) (suc m) (x ∷ xs) le = ap (λ (ys : List PlainSlot). x ∷ ys
 
 -- as many rows begin in the first chunk before the row as are to be skipped
 skipped : (lists bytes row first : ℕ) (words index : List ℕ) (slots : List PlainSlot) → AreChunks small_chunks (length slots) bytes words → SaysRows lists words index slots → Known lists words index slots row first
-    → row - rows_before index first ≡ starts lists (take (row_at lists row slots - first_slot words first) (slots_in words slots first))
+    → row - rows_before index first ≡ starts lists (take (row_at lists row slots - slots_ahead words first) (slots_of_chunk words slots first))
 skipped lists bytes row first words index slots h s k =
     let total = length slots in
     let p = row_at lists row slots in
-    let f = first_slot words first in
+    let f = slots_ahead words first in
     let less = k.within in
     let from = k.from in
     let before = k.before in
@@ -171,32 +170,10 @@ skipped lists bytes row first words index slots h s k =
     let count = (begins lists row slots (omega arith)).count in
     omega arith
 
--- in the chunks behind the first, but the last, no row begins
-bare_by : (index : List ℕ) (count first past d : ℕ) → EndsAt index count first past → first + 1 + d + 1 ≤ past → rows_before index (first + 1 + d) ≡ rows_before index (first + 1)
-bare_by index count first past zero e le = let same : first + 1 + 0 ≡ first + 1 = omega arith in ap (rows_before index) same
-bare_by index count first past (suc d) e le =
-    let before = bare_by index count first past d e (omega arith) in
-    let none = e.bare (first + 1 + d) (omega arith) (omega arith) in
-    let more = rows_more index (first + 1 + d) in
-    let same : first + 1 + d + 1 ≡ first + 1 + suc d = omega arith in
-    let at = ap (rows_before index) same in
-    omega arith
-
-bare_all : (index : List ℕ) (count first past : ℕ) → EndsAt index count first past → first + 1 < past → rows_before index (past - 1) ≡ rows_before index (first + 1)
-bare_all index count first past e more =
-    let d = past - 1 - (first + 1) in
-    let same : first + 1 + d ≡ past - 1 = omega arith in
-    ap (rows_before index) (sym same) ∙ bare_by index count first past d e (omega arith)
-
--- a chunk has slots
-some_slots : (words : List ℕ) (total bytes n : ℕ) → AreChunks small_chunks total bytes words → n < length words → (length words ≤ n + 1) ⊎ (n + 1 < length words) → 0 < chunk_slots words total n
-some_slots words total bytes n h less (inl last) = let here = is_last words total n last in let left = (in_chunks small_chunks words total bytes n h less).slots_left in omega arith
-some_slots words total bytes n h less (inr more) = let here = not_last words total n more in let some = pow_pos (slots_log (slice_index words n)) in omega arith
-
-chunk_length : (words : List ℕ) (bytes n : ℕ) (slots : List PlainSlot) → AreChunks small_chunks (length slots) bytes words → n < length words → length (slots_in words slots n) ≡ chunk_slots words (length slots) n
+chunk_length : (words : List ℕ) (bytes n : ℕ) (slots : List PlainSlot) → AreChunks small_chunks (length slots) bytes words → n < length words → length (slots_of_chunk words slots n) ≡ chunk_slots words (length slots) n
 chunk_length words bytes n slots h less =
     let within = chunk_within small_chunks words (length slots) bytes n h less in
-    omega (arith, length-take (chunk_slots words (length slots) n) (drop (first_slot words n) slots), length-drop (first_slot words n) slots)
+    omega (arith, length-take (chunk_slots words (length slots) n) (drop (slots_ahead words n) slots), length-drop (slots_ahead words n) slots)
 
 strictly_case : (a b : ℕ) → a ≤ b → (a ≡ b → ⊥) → (b ≤ a) ⊎ (a < b) → a < b
 strictly_case a b le ne (inl back) = absurd (ne (omega arith))
@@ -207,11 +184,11 @@ strictly a b le ne = strictly_case a b le ne (either b a)
 
 -- the last slot of the row is not before the last chunk
 last_from : (lists bytes row first past : ℕ) (words index : List ℕ) (slots : List PlainSlot) → AreChunks small_chunks (length slots) bytes words → SaysRows lists words index slots → Known lists words index slots row first
-    → rows_before index (first + 1) ≡ row + 1 → EndsAt index (length words) first past → (past ≤ first + 1) ⊎ (first + 1 < past) → first_slot words (past - 1) < row_at lists (row + 1) slots
+    → rows_before index (first + 1) ≡ row + 1 → EndsAt index (length words) first past → (past ≤ first + 1) ⊎ (first + 1 < past) → slots_ahead words (past - 1) < row_at lists (row + 1) slots
 last_from lists bytes row first past words index slots h s k e t (inl one) =
     let more = t.behind in
     let same : past - 1 ≡ first = omega arith in
-    let at = ap (first_slot words) same in
+    let at = ap (slots_ahead words) same in
     let from = k.from in
     let later = k.later in
     omega arith
@@ -226,11 +203,11 @@ last_from lists bytes row first past words index slots h s k e t (inr more) =
     let front = ap (λ (n : ℕ). starts lists (take n slots)) (edge_in words total d less) in
     let left = (in_chunks small_chunks words total bytes d h less).slots_left in
     let fits = k.fits in
-    let up : first_slot words d ≤ q = behind lists (row + 1) (first_slot words d) slots fits (omega arith) (omega arith) in
-    strictly (first_slot words d) q up
+    let up : slots_ahead words d ≤ q = behind lists (row + 1) (slots_ahead words d) slots fits (omega arith) (omega arith) in
+    strictly (slots_ahead words d) q up
     (λ same.
-    let begins_here : FirstBegins lists (drop (first_slot words d) slots) = subst (λ (n : ℕ). FirstBegins lists (drop n slots)) (sym same) (behind_begins lists (row + 1) slots) in
-    let none = before_first lists (slots_in words slots d) (begins_take lists (chunk_slots words total d) (drop (first_slot words d) slots) begins_here) in
+    let begins_here : FirstBegins lists (drop (slots_ahead words d) slots) = subst (λ (n : ℕ). FirstBegins lists (drop n slots)) (sym same) (behind_begins lists (row + 1) slots) in
+    let none = before_first lists (slots_of_chunk words slots d) (begins_take lists (chunk_slots words total d) (drop (slots_ahead words d) slots) begins_here) in
     let lead = s.before d less in
     let some = t.leads d (omega arith) (omega arith) in
     omega arith)
@@ -255,7 +232,7 @@ last_before lists bytes row first past words index slots h s k e t stop (inl all
 last_before lists bytes row first past words index slots h s k e t (inl all) (inr less) = absurd (omega arith)
 last_before lists bytes row first past words index slots h s k e t (inr (inl none)) (inr less) =
     let total = length slots in
-    let f = first_slot words past in
+    let f = slots_ahead words past in
     let at = edge_in words total past less in
     let more = t.behind in
     let rise = rows_rise index (first + 1) past (omega arith) in
@@ -264,8 +241,8 @@ last_before lists bytes row first past words index slots h s k e t (inr (inl non
     let lead = s.before past less in
     let some = some_slots words total bytes past h less (either (length words) (past + 1)) in
     let size = chunk_length words bytes past slots h less in
-    let first_begins : FirstBegins lists (slots_in words slots past) = none_before lists (slots_in words slots past) (omega arith) in
-    let one = one_slot lists (slots_in words slots past) (omega arith) first_begins in
+    let first_begins : FirstBegins lists (slots_of_chunk words slots past) = none_before lists (slots_of_chunk words slots past) (omega arith) in
+    let one = one_slot lists (slots_of_chunk words slots past) (omega arith) first_begins in
     let same = ap (starts lists) (take_take 1 (chunk_slots words total past) (drop f slots) (omega arith)) in
     let both = starts_more lists f 1 slots in
     let q : row_at lists (row + 1) slots < f + 1 = among lists (row + 1) (f + 1) slots k.fits (omega arith) in
@@ -331,7 +308,7 @@ room lists (s ∷ slots) = let later = room lists slots in room_case (s.rep == l
 lead_fits : (lists bytes n : ℕ) (words index : List ℕ) (slots : List PlainSlot) → AreChunks small_chunks (length slots) bytes words → SaysRows lists words index slots → FirstBegins lists slots → n < length words
     → LeadFits n (chunk_slots words (length slots) n) (starts_at index n) (lead_at index n)
 lead_fits lists bytes n words index slots h s b less =
-    let here = slots_in words slots n in
+    let here = slots_of_chunk words slots n in
     let begin = s.begin n less in
     let before = s.before n less in
     let size = chunk_length words bytes n slots h less in
@@ -340,9 +317,9 @@ lead_fits lists bytes n words index slots h s b less =
       within = omega arith;
       bare = λ none. let all = ap (length {A = PlainSlot}) (before_all lists 0 here (omega arith)) in omega arith;
       front = λ e.
-          let none : first_slot words n ≡ 0 = ap (first_slot words) e ∙ so_none word_slots words in
-          let first : FirstBegins lists (drop (first_slot words n) slots) = subst (λ (k : ℕ). FirstBegins lists (drop k slots)) (sym none) b in
-          let no = before_first lists here (begins_take lists (chunk_slots words (length slots) n) (drop (first_slot words n) slots) first) in
+          let none : slots_ahead words n ≡ 0 = ap (slots_ahead words) e ∙ so_none word_slots words in
+          let first : FirstBegins lists (drop (slots_ahead words n) slots) = subst (λ (k : ℕ). FirstBegins lists (drop k slots)) (sym none) b in
+          let no = before_first lists here (begins_take lists (chunk_slots words (length slots) n) (drop (slots_ahead words n) slots) first) in
           omega arith;
     }
 

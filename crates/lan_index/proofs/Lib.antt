@@ -6,3 +6,5 @@ pub mod RowSlots
 pub mod ZipPlaces
 pub mod ChunkLemmas
 pub mod ChunkRows
+pub mod Climbs
+pub mod ChunkRuns

@@ -1,9 +1,9 @@
 -- Slots one after another, cut between two slots.
-use Rattle.std.proofs.Common.{◌≡◌, ℕ, zero, suc, ◌+◌, ◌-◌, List, [], ◌++◌, Option, Some, length, take, drop, refl, ap, ap₂, sym, ◌∙◌, arith, append_assoc, append-nil, length-append}
+use Rattle.std.proofs.Common.{◌≡◌, ℕ, zero, suc, ◌+◌, ◌-◌, List, [], ◌∷◌, ◌++◌, Option, Some, length, take, drop, refl, ap, ap₂, sym, ◌∙◌, arith, append_assoc, append-nil, length-append}
 use Rattle.std.proofs.lemmas.List.{take_at, drop_at}
 use Rattle.lan_levels.specs.PlainSlots.{PlainSlot}
 use Rattle.lan_levels.specs.ZipForm.{PlainForm}
-use Rattle.lan_levels.specs.ZipSlots.{first_slot, Part, spelled}
+use Rattle.lan_levels.specs.ZipSlots.{slot, first_slot, Part, spelled}
 use Rattle.lan_levels.proofs.ZipWalks.{spelled_none, spelled_more, opened, put_first, count_slots}
 use Rattle.lan_levels.specs.ZipRows.{rest_in, slot_place}
 use Rattle.lan_levels.proofs.ZipSpelling.{parted, slots_front, slots_read}
@@ -30,6 +30,16 @@ pub record Splits (f : PlainForm) (n m : ℕ) (all : List ℕ) (p : Part) : Type
   pub front : spelled f n all ≡ Some (parted (take n p.slots) mid)
   pub back : spelled f m mid ≡ Some (parted (drop n p.slots) p.rest)
 
+more_split : (f : PlainForm) (n m : ℕ) (all : List ℕ) (s : PlainSlot) (next : List ℕ) (slots : List PlainSlot) (p : Part) → first_slot f all ≡ slot s next → p.slots ≡ s ∷ slots → Splits f n m next (parted slots p.rest) → Splits f (suc n) m all p
+more_split f n m all s next slots p e h later =
+    let whole : s ∷ slots ≡ p.slots = sym h in
+    let front : spelled f (suc n) all ≡ Some (parted (s ∷ take n slots) later.mid) = put_first f n all s next (parted (take n slots) later.mid) e later.front in
+    record {
+      mid = later.mid;
+      front = front ∙ ap (λ (ss : List PlainSlot). Some (parted (take (suc n) ss) later.mid)) whole;
+      back = later.back ∙ ap (λ (ss : List PlainSlot). Some (parted (drop (suc n) ss) p.rest)) whole;
+    }
+
 pub split : (f : PlainForm) (n m : ℕ) (all : List ℕ) (p : Part) → spelled f (n + m) all ≡ Some p → Splits f n m all p
 split f zero m all p e =
     let none : m ≡ 0 + m = omega arith in
@@ -38,11 +48,7 @@ split f (suc n) m all p e =
     let count : suc (n + m) ≡ suc n + m = omega arith in
     let o = opened (first_slot f all) (λ rest. spelled f (n + m) rest) p (sym (spelled_more f (n + m) all) ∙ ap (λ (k : ℕ). spelled f k all) count ∙ e) in
     let later = split f n m o.next (parted o.slots p.rest) o.is in
-    record {
-      mid = later.mid;
-      front = put_first f n all o.first o.next (parted (take n o.slots) later.mid) o.read later.front ∙ ap (λ (ss : List PlainSlot). Some (parted (take (suc n) ss) later.mid)) (sym o.whole);
-      back = later.back ∙ ap (λ (ss : List PlainSlot). Some (parted (drop (suc n) ss) p.rest)) (sym o.whole);
-    }
+    more_split f n m all o.first o.next o.slots p o.read o.whole later
 
 pub join : (f : PlainForm) (n m : ℕ) (all : List ℕ) (p q : Part) → spelled f n all ≡ Some p → spelled f m p.rest ≡ Some q → spelled f (n + m) all ≡ Some (parted (p.slots ++ q.slots) q.rest)
 join f zero m all p q e h =

@@ -9,7 +9,7 @@ use Rattle.lan_levels.specs.PlainSlots.{PlainPiece, PlainSlot}
 use Rattle.lan_levels.specs.declared.shape.ValueForm.{ValueForm}
 use Rattle.lan_levels.specs.declared.shape.ValueForm.TheVariants as value
 use Rattle.lan_levels.specs.ZipForm.{PlainForm}
-use Rattle.lan_levels.specs.ZipSlots.{spelled, starts, IsZip}
+use Rattle.lan_levels.specs.ZipSlots.{Part, spelled, starts, IsZip}
 use Rattle.lan_levels.proofs.ZipWalks.{spelled_none}
 use Rattle.lan_levels.specs.Stretch.{Stretch, bytes_in, cover}
 use Rattle.lan_levels.specs.Offsets.{AreOffsets}
@@ -145,6 +145,12 @@ single_before n slots h le =
     let reps = subst (RepsWithin 0) (sym e) (reps_take 0 (length (slots_before 0 n slots)) slots h) in
     sym (starts_all (slots_before 0 n slots) reps) ∙ before_starts 0 n slots le
 
+-- where the slots behind the first end, of one width
+even_front : (f : PlainForm) (n : ℕ) (all : List ℕ) (p : Part) → IsEven f → spelled f n all ≡ Some p → slot_place f n all ≡ slot_width f * length p.slots
+even_front f n all p h e =
+    let l = slots_front f n all p e in
+    place_is f n all l.used p.rest p.slots e l.whole ∙ slots_size f p.slots l.used h l.are
+
 -- rows of one width
 pub even_place : (f : PlainForm) (rows n : ℕ) (all : List ℕ) (slots : List PlainSlot) → IsEven f → IsZip f rows all slots → n ≤ rows → row_place f n all slots ≡ slot_width f * n
 even_place f rows n all slots h z le =
@@ -156,11 +162,9 @@ even_place f rows n all slots h z le =
     let within = before_within f.lists n slots in
     let total : length slots ≡ n + (length slots - n) = omega arith in
     let s = split f n (length slots - n) all (parted slots []) (ap (λ (k : ℕ). spelled f k all) (sym total) ∙ z.are) in
-    let l = slots_front f n all (parted (take n slots) s.mid) s.front in
-    let size = slots_size f (take n slots) l.used h l.are in
     let many : length (take n slots) ≡ n = omega (arith, length-take n slots) in
-    let place = place_is f n all l.used s.mid (take n slots) s.front l.whole in
-    ap (λ (k : ℕ). slot_place f k all) count ∙ place ∙ size ∙ ap (λ (k : ℕ). slot_width f * k) many
+    let place : slot_place f n all ≡ slot_width f * length (take n slots) = even_front f n all (parted (take n slots) s.mid) h s.front in
+    ap (λ (k : ℕ). slot_place f k all) count ∙ place ∙ ap (λ (k : ℕ). slot_width f * k) many
 
 pub even_index : (f : PlainForm) (rows : ℕ) (all : List ℕ) (slots : List PlainSlot) → IsEven f → IsZip f rows all slots → IsIndex (even (slot_width f)) rows (length all)
 even_index f rows all slots h z = sym (even_place f rows rows all slots h z (omega arith)) ∙ row_end f rows all slots z

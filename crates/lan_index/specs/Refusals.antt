@@ -2,10 +2,10 @@
 use Rattle.std.specs.Prelude.{◌≡◌, ◌≢◌, ℕ, ◌+◌, ◌-◌, ◌*◌, ◌%◌, ◌^◌, ◌<◌, ◌≤◌, ◌⊎◌, List, length, slice_index}
 use Rattle.lan_model.specs.declared.range.Range.{Range}
 use Rattle.lan_levels.specs.Stretch.{Stretch}
-use Rattle.lan_levels.specs.Offsets.{place_at, NoneFalls}
+use Rattle.lan_levels.specs.Offsets.{place_at, NoPlaceFalls}
 use Rattle.std.specs.Int.{byte_len}
 use Rattle.lan_bytes.specs.Numbers.{numbers_of}
-use Rattle.lan_levels.specs.Chunks.{ChunkKind, slots_log, word_bytes, first_slot, first_byte, chunk_slots, AreWhole, HaveSlots, starts_at, lead_at, rows_before, LeadFits, LeadsFit}
+use Rattle.lan_levels.specs.Chunks.{ChunkKind, slots_log, word_bytes, slots_ahead, bytes_ahead, chunk_slots, AreWhole, HaveSlots, starts_at, lead_at, rows_before, LeadFits, LeadsFit}
 use Rattle.lan_index.specs.declared.fault.IndexFault.{IndexFault}
 use Rattle.lan_index.specs.declared.fault.IndexFault.TheVariants as fault
 
@@ -22,7 +22,7 @@ stretch r = record { from = r.at; past = r.at + r.len }
 pub record FallsAt (rows : ℕ) (places : List ℕ) (n : ℕ) : Type 0 where
   pub size : length places ≡ 8 * (rows + 1)
   pub within : n ≤ rows
-  pub before : NoneFalls places (n - 1)
+  pub before : NoPlaceFalls places (n - 1)
   pub front : 0 < n → place_at places 0 ≡ 0
   pub falls : ((n ≡ 0) × (place_at places 0 ≢ 0)) ⊎ ((0 < n) × (place_at places n < place_at places (n - 1)))
 
@@ -30,7 +30,7 @@ pub record FallsAt (rows : ℕ) (places : List ℕ) (n : ℕ) : Type 0 where
 pub record EndsElsewhere (rows bytes : ℕ) (places : List ℕ) : Type 0 where
   pub size : length places ≡ 8 * (rows + 1)
   pub front : place_at places 0 ≡ 0
-  pub rises : NoneFalls places rows
+  pub rises : NoPlaceFalls places rows
   pub other : place_at places rows ≢ bytes
 
 -- why bytes are no places of so many rows, in so many bytes of content
@@ -44,11 +44,11 @@ OffsetsStand rows bytes places _ = ⊥
 abbrev pub OtherSlots : ChunkKind → ℕ → List ℕ → Type 0
 OtherSlots kind slots words =
     ((n : ℕ) × (n + 1 < length words) × (kind.top < slots_log (slice_index words n)))
-    ⊎ ((slots ≤ first_slot words (length words - 1)) ⊎ (first_slot words (length words - 1) + 2 ^ kind.top < slots))
+    ⊎ ((slots ≤ slots_ahead words (length words - 1)) ⊎ (slots_ahead words (length words - 1) + 2 ^ kind.top < slots))
 
 -- a chunk has too many bytes, or all have another number of them
 abbrev pub OtherBytes : ChunkKind → ℕ → List ℕ → Type 0
-OtherBytes kind bytes words = ((n : ℕ) × (n < length words) × (kind.most < word_bytes (slice_index words n))) ⊎ (first_byte words (length words) ≢ bytes)
+OtherBytes kind bytes words = ((n : ℕ) × (n < length words) × (kind.most < word_bytes (slice_index words n))) ⊎ (bytes_ahead words (length words) ≢ bytes)
 
 -- why bytes are no words of chunks with so many slots and bytes
 abbrev pub WordsStand : ChunkKind → ℕ → ℕ → List ℕ → IndexFault → Type 0

@@ -1,6 +1,7 @@
 -- The chunks that hold a row or a slot, by the chunk words and the index of rows.
 use Rattle.std.specs.Prelude.{◌≡◌, ℕ, ◌+◌, ◌-◌, ◌<◌, ◌≤◌, ◌⊎◌, List, length, slice_index}
-use Rattle.lan_levels.specs.Chunks.{word_bytes, first_slot, first_byte, chunk_slots, starts_at, lead_at, rows_before}
+use Rattle.lan_levels.specs.Stretch.{Stretch}
+use Rattle.lan_levels.specs.Chunks.{word_bytes, slots_ahead, bytes_ahead, chunk_slots, starts_at, lead_at, rows_before}
 use Rattle.lan_index.specs.declared.run.Run.{Run}
 
 -- the words, and how many slots and bytes their chunks have
@@ -15,14 +16,18 @@ pub record Indexed : Type 0 where
   pub rows : ℕ
   pub index : List ℕ
 
+-- the bytes of the chunks
+abbrev pub extent : Run → Stretch
+extent run = record { from = run.at; past = run.at + run.len }
+
 -- the one chunk that has the slot, and how many of its slots stand before it
 pub record IsSlotRun (words : List ℕ) (slots slot : ℕ) (run : Run) : Type 0 where
   pub within : run.first < length words
-  pub from : first_slot words run.first ≤ slot
-  pub before : slot < first_slot words run.first + chunk_slots words slots run.first
+  pub from : slots_ahead words run.first ≤ slot
+  pub before : slot < slots_ahead words run.first + chunk_slots words slots run.first
   pub one : run.past ≡ run.first + 1
-  pub skip : run.skip ≡ slot - first_slot words run.first
-  pub at : run.at ≡ first_byte words run.first
+  pub skip : run.skip ≡ slot - slots_ahead words run.first
+  pub at : run.at ≡ bytes_ahead words run.first
   pub len : run.len ≡ word_bytes (slice_index words run.first)
 
 -- a row that no other row follows in its first chunk ends before the chunk `past`: each chunk behind the first has slots of it, none but
@@ -46,5 +51,5 @@ pub record IsRowRun (words index : List ℕ) (row : ℕ) (run : Run) : Type 0 wh
   pub before : row < rows_before index (run.first + 1)
   pub skip : run.skip ≡ row - rows_before index run.first
   pub ends : RowEnds index (length words) run.first row run.past
-  pub at : run.at ≡ first_byte words run.first
-  pub len : run.at + run.len ≡ first_byte words run.past
+  pub at : run.at ≡ bytes_ahead words run.first
+  pub len : run.at + run.len ≡ bytes_ahead words run.past

@@ -1,7 +1,13 @@
 ghost use Rattle.lan_levels.specs.Past.{CoversAreLeast, EachPieceEnds};
 ghost use Rattle.lan_levels.specs.Pieces.{EachRowIsRead};
 ghost use Rattle.lan_index.specs.ChunkLaws.{RowsAreIndexed, RunsHoldRows};
+ghost use Rattle.lan_levels.specs.Runs.{IndexedRunsRise};
 ghost use Rattle.lan_levels.specs.ZipRows.{ZipPagesHavePieces};
+
+/// A law of the definitions: the runs of rows that are indexed rise, and lie in the content.
+pub fn indexed_runs_rise()
+    ensures { IndexedRunsRise }
+{}
 
 /// A law of the definitions: where a piece ends, and how long it is at most.
 pub fn each_piece_ends()

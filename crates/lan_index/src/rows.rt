@@ -1,7 +1,8 @@
 ghost use Rattle.std.specs.Prelude.{◌≡◌, ◌≢◌, ◌↔◌, ℕ, ◌+◌, ◌*◌, ◌-◌, ◌^◌, ◌<◌, ◌≤◌, length, IfOk, IfErr, IfSome, IfNone, IsTrue, IsFalse};
 ghost use Rattle.lan_levels.specs.Chunks.{chunk_slots, starts_at, lead_at, rows_before, LeadFits, LeadsFit, IsRowIndex};
 ghost use Rattle.lan_index.specs.Refusals.{IndexStands};
-ghost use Rattle.lan_index.specs.Runs.{Indexed, EndsAt, RowEnds, IsRowRun};
+ghost use Rattle.lan_levels.specs.Runs.{chunked, run};
+ghost use Rattle.lan_index.specs.Runs.{Indexed, EndsAt, RowEnds, IsRowRun, extent};
 
 use crate::fault::IndexFault;
 use crate::reading::number;
@@ -69,7 +70,8 @@ impl<'a> RowIndex<'a> {
     /// has a slot of it.
     pub fn run_of(&self, row: u64) -> Run
         requires { row < self.now.rows }
-        ensures { IsRowRun self.now.chunks.words self.now.index row result }
+        ensures value { IsRowRun self.now.chunks.words self.now.index row result }
+        ensures bytes { extent result ≡ run (chunked self.now.chunks.slots self.now.chunks.words self.now.index) row }
     {
         let (first, before) = self.first_with(row);
         let past = self.end_of(row, first, before);

@@ -1,7 +1,7 @@
 ghost use Rattle.std.specs.Prelude.{◌≡◌, ◌+◌, ◌*◌, ◌-◌, ◌%◌, ◌/◌, ◌^◌, ◌<◌, ◌≤◌, length, slice_index, IfOk, IfErr, IsTrue, IsFalse};
 ghost use Rattle.std.specs.Int.{w16};
 ghost use Rattle.lan_bytes.specs.Numbers.{numbers_of};
-ghost use Rattle.lan_levels.specs.Chunks.{small_chunks, word_slots, word_bytes, slots_log, first_slot, first_byte, chunk_slots, chunk_of, HaveSlots, HaveBytes, AreChunks, AreWhole};
+ghost use Rattle.lan_levels.specs.Chunks.{small_chunks, word_slots, word_bytes, slots_log, slots_ahead, bytes_ahead, chunk_slots, chunk_of, HaveSlots, HaveBytes, AreChunks, AreWhole};
 ghost use Rattle.lan_index.specs.Refusals.{WordsStand, OtherSlots, OtherBytes};
 ghost use Rattle.lan_index.specs.Runs.{Chunked, IsSlotRun};
 
@@ -101,11 +101,31 @@ impl<'a> ChunkWords<'a> {
         }
     }
 
+    /// The chunk behind that of this number, which is `span`: one step of a walk over the chunks.
+    pub fn span_after(&self, chunk: u64, span: Span) -> Span
+        requires within { chunk + 1 < length self.now.words }
+        requires span { span ≡ chunk_of self.now.words self.now.slots chunk }
+        ensures value { result ≡ chunk_of self.now.words self.now.slots (chunk + 1) }
+        ensures within { result.at + result.len ≤ self.now.bytes }
+    {
+        let (_count, _bytes, _slots) = (self.words.len(), self.bytes, self.slots);
+        let next = chunk + 1;
+        let first = span.first + span.slots;
+        let at = span.at + span.len;
+        Span {
+            at,
+            len: self.bytes_at(next),
+            first,
+            slots: self.slots_at(next, first),
+        }
+    }
+
     /// How many bytes, and how many slots, stand before the chunk of that number.
     pub fn front(&self, chunk: u64) -> (u64, u64)
         requires { chunk < length self.now.words }
-        ensures bytes { result.0 ≡ first_byte self.now.words chunk }
-        ensures slots { result.1 ≡ first_slot self.now.words chunk }
+        ensures chunks { AreChunks small_chunks self.now.slots self.now.bytes self.now.words }
+        ensures bytes { result.0 ≡ bytes_ahead self.now.words chunk }
+        ensures slots { result.1 ≡ slots_ahead self.now.words chunk }
     {
         let (mut at, mut first) = (0, 0);
         let (_bytes, _slots) = (self.bytes, self.slots);
@@ -120,7 +140,7 @@ impl<'a> ChunkWords<'a> {
     /// How many slots the chunk of that number has, before which so many stand.
     pub fn slots_at(&self, chunk: u64, first: u64) -> u64
         requires chunk { chunk < length self.now.words }
-        requires first { first ≡ first_slot self.now.words chunk }
+        requires first { first ≡ slots_ahead self.now.words chunk }
         ensures value { result ≡ chunk_slots self.now.words self.now.slots chunk }
         ensures within { first + result ≤ self.now.slots }
     {
@@ -143,7 +163,7 @@ impl<'a> ChunkWords<'a> {
     pub fn bytes_between(&self, first: u64, past: u64) -> u64
         requires front { first ≤ past }
         requires end { past ≤ length self.now.words }
-        ensures { first_byte self.now.words first + result ≡ first_byte self.now.words past }
+        ensures { bytes_ahead self.now.words first + result ≡ bytes_ahead self.now.words past }
     {
         let _bytes = self.bytes;
         let mut len = 0;
@@ -175,8 +195,8 @@ impl<'a> ChunkWords<'a> {
         requires { slot < self.now.slots }
         ensures within { result < length self.now.words }
         ensures few { result + 1 < 2 ^ 64 }
-        ensures from { first_slot self.now.words result ≤ slot }
-        ensures before { slot < first_slot self.now.words result + chunk_slots self.now.words self.now.slots result }
+        ensures from { slots_ahead self.now.words result ≤ slot }
+        ensures before { slot < slots_ahead self.now.words result + chunk_slots self.now.words self.now.slots result }
     {
         let last = self.words.len() - 1;
         let mut left = slot;

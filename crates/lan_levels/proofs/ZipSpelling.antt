@@ -14,8 +14,8 @@ use Rattle.lan_levels.specs.declared.slot.State.TheVariants as state
 use Rattle.lan_levels.specs.Codes.{IsBare}
 use Rattle.lan_levels.specs.PlainSlots.{PlainPiece, PlainSlot, bytes, bit, nothing}
 use Rattle.lan_levels.specs.ZipForm.{PlainForm}
-use Rattle.lan_levels.specs.ZipSlots.{Valued, Read, cut, level, slot, sized_part, value_part, kept, is_bare, slot_value, word_number, with_value, with_state, with_word, first_slot, Part, spelled, AreSlots}
-use Rattle.lan_levels.specs.ZipSpelling.{SizedIs, ValueIs, SomeValue, BodyIs, SlotSpelled, AreSpelled, SlotsAreSpelled}
+use Rattle.lan_levels.specs.ZipSlots.{Valued, cut, level, slot, sized_part, value_part, kept, is_bare, slot_value, word_number, with_value, with_state, with_word, first_slot, Part, spelled}
+use Rattle.lan_levels.specs.ZipSpelling.{ValueIs, SomeValue, BodyIs, SlotSpelled, AreSpelled, SlotsAreSpelled}
 use Rattle.lan_levels.proofs.ZipFirst.{word_read}
 use Rattle.lan_levels.proofs.ZipWalks.{spelled_none, spelled_more, opened, put_first}
 

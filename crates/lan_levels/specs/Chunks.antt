@@ -30,30 +30,30 @@ so_far f words zero = 0
 so_far f words (suc n) = so_far f words n + f (slice_index words n)
 
 -- the slots before the chunk of that number, counted from 0, and the bytes before it
-abbrev pub first_slot : List ℕ → ℕ → ℕ
-first_slot words n = so_far word_slots words n
+abbrev pub slots_ahead : List ℕ → ℕ → ℕ
+slots_ahead words n = so_far word_slots words n
 
-abbrev pub first_byte : List ℕ → ℕ → ℕ
-first_byte words n = so_far word_bytes words n
+abbrev pub bytes_ahead : List ℕ → ℕ → ℕ
+bytes_ahead words n = so_far word_bytes words n
 
 -- how many slots the chunk of that number has, of so many in all: the last has those that are left
 abbrev pub chunk_slots : List ℕ → ℕ → ℕ → ℕ
-chunk_slots words slots n = cond (nat_lt (n + 1) (length words)) (word_slots (slice_index words n)) (slots - first_slot words n)
+chunk_slots words slots n = cond (nat_lt (n + 1) (length words)) (word_slots (slice_index words n)) (slots - slots_ahead words n)
 
 -- the chunk of that number
 abbrev pub chunk_of : List ℕ → ℕ → ℕ → Span
-chunk_of words slots n = record { at = first_byte words n; len = word_bytes (slice_index words n); first = first_slot words n; slots = chunk_slots words slots n }
+chunk_of words slots n = record { at = bytes_ahead words n; len = word_bytes (slice_index words n); first = slots_ahead words n; slots = chunk_slots words slots n }
 
 -- each chunk but the last has no more slots than a chunk may have, and they leave so many for the last
 pub record HaveSlots (kind : ChunkKind) (slots : ℕ) (words : List ℕ) : Type 0 where
   pub logs : (n : ℕ) → n + 1 < length words → slots_log (slice_index words n) ≤ kind.top
-  pub some : first_slot words (length words - 1) < slots
-  pub few : slots ≤ first_slot words (length words - 1) + 2 ^ kind.top
+  pub some : slots_ahead words (length words - 1) < slots
+  pub few : slots ≤ slots_ahead words (length words - 1) + 2 ^ kind.top
 
 -- no chunk has more bytes than a chunk may have, and all have so many
 pub record HaveBytes (kind : ChunkKind) (bytes : ℕ) (words : List ℕ) : Type 0 where
   pub each : (n : ℕ) → n < length words → word_bytes (slice_index words n) ≤ kind.most
-  pub all : first_byte words (length words) ≡ bytes
+  pub all : bytes_ahead words (length words) ≡ bytes
 
 -- the words are those of chunks with so many slots and bytes
 pub record AreChunks (kind : ChunkKind) (slots bytes : ℕ) (words : List ℕ) : Type 0 where

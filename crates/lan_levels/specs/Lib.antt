@@ -18,7 +18,6 @@ pub mod Stretch
 pub mod Past
 pub mod Pieces
 pub mod Offsets
-pub mod Stage
 pub mod Runs
 pub mod ZipRows
 pub mod Chunks

@@ -1,5 +1,5 @@
 -- How many successive rows are read at once.
-use Rattle.std.specs.Prelude.{ℕ, zero, suc, ◌+◌, ◌^◌, ◌<◌, ◌≤◌, ◌⊎◌, Bool, true, ◌≡◌, ◌||◌, cond, min, max, nat_le}
+use Rattle.std.specs.Prelude.{ℕ, zero, suc, ◌+◌, ◌^◌, ◌<◌, ◌≤◌, ◌⊎◌, Bool, ◌≡◌, ◌||◌, cond, min, max, nat_le}
 use Rattle.lan_levels.specs.Stretch.{Stretch, size, IsRising, cover, Has}
 
 -- no more bytes than these are read at once, unless one row has more

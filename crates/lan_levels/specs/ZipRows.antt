@@ -1,12 +1,12 @@
 -- The rows of a full-zip page, among its slots and in its bytes.
-use Rattle.std.specs.Prelude.{◌≡◌, ℕ, zero, suc, ◌+◌, ◌-◌, ◌*◌, ◌<◌, ◌≤◌, ◌==◌, cond, List, [], ◌∷◌, Option, Some, None, length, take, drop}
+use Rattle.std.specs.Prelude.{◌≡◌, ℕ, zero, suc, ◌+◌, ◌-◌, ◌*◌, ◌<◌, ◌≤◌, ◌==◌, cond, ⊤, List, [], ◌∷◌, Option, Some, None, length, take, drop}
 use Rattle.lan_levels.specs.declared.shape.ValueForm.{ValueForm}
 use Rattle.lan_levels.specs.declared.shape.ValueForm.TheVariants as value
 use Rattle.lan_levels.specs.PlainSlots.{PlainSlot}
 use Rattle.lan_levels.specs.SlotsOf.{lists_in}
 use Rattle.lan_levels.specs.ZipForm.{PlainForm}
 use Rattle.lan_levels.specs.ZipSlots.{Part, spelled, IsZip}
-use Rattle.lan_levels.specs.Stretch.{Stretch, bytes_in, cover}
+use Rattle.lan_levels.specs.Stretch.{bytes_in, cover}
 use Rattle.lan_levels.specs.Offsets.{place_at}
 use Rattle.lan_levels.specs.Runs.{Runs, even, placed, run, IsIndex}
 
@@ -49,7 +49,7 @@ slot_width f = f.word + value_width f.value
 
 abbrev pub IsSized : ValueForm → Type 0
 IsSized value.Variable = ⊥
-IsSized form = Unit {0}
+IsSized form = ⊤
 
 -- without list layers, and with values of one width, all slots have as many bytes
 pub record IsEven (f : PlainForm) : Type 0 where

@@ -1,6 +1,6 @@
 use Rattle.std.proofs.Common.{◌∙◌, ◌+◌, ◌<◌, length, ap, sym, arith}
 use Rattle.std.specs.Prelude.{slice_index}
-use Rattle.lan_levels.specs.Chunks.{small_chunks, word_slots, word_bytes, first_slot, first_byte}
+use Rattle.lan_levels.specs.Chunks.{small_chunks, word_slots, word_bytes, slots_ahead, bytes_ahead}
 use Rattle.lan_index.specs.Runs.{Chunked}
 use Rattle.lan_index.proofs.ChunkLemmas.{so_none, so_more, in_chunks, later_slot}
 use Rattle.lan_index.proofs.words.ChunkWords.front.Goals as goal
@@ -13,7 +13,7 @@ overflow_add-at c =
     let v = c.self.inside in
     let i = c.loop-i.i in
     let count = ap (λ (k : Chunked). length k.words) c.self.view_is in
-    let front = ap (λ (k : Chunked). first_byte k.words i) c.self.view_is in
+    let front = ap (λ (k : Chunked). bytes_ahead k.words i) c.self.view_is in
     let less : i < length v.words = omega (arith, c.requires) in
     let fit = (in_chunks small_chunks v.words v.slots v.bytes i c.self.invariant less).bytes_fit in
     let same = c.bytes_of-at.ensures.value ∙ ap word_bytes c.word_at-word.ensures in
@@ -25,7 +25,7 @@ overflow_add-first c =
     let v = c.self.inside in
     let i = c.loop-i.i in
     let count = ap (λ (k : Chunked). length k.words) c.self.view_is in
-    let front = ap (λ (k : Chunked). first_slot k.words i) c.self.view_is in
+    let front = ap (λ (k : Chunked). slots_ahead k.words i) c.self.view_is in
     let less : i + 1 < length v.words = omega (arith, c.requires) in
     let fit = later_slot small_chunks v.words v.slots v.bytes i c.self.invariant less in
     let same = c.slots_of-first.ensures.value ∙ ap word_slots c.word_at-word.ensures in

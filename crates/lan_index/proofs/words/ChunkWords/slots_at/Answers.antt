@@ -1,5 +1,5 @@
 use Rattle.std.proofs.Common.{◌∙◌, ◌+◌, ◌<◌, length, ap, arith}
-use Rattle.lan_levels.specs.Chunks.{small_chunks, word_slots, first_slot}
+use Rattle.lan_levels.specs.Chunks.{small_chunks, word_slots, slots_ahead}
 use Rattle.lan_index.specs.Runs.{Chunked}
 use Rattle.lan_index.proofs.ChunkLemmas.{later_slot}
 use Rattle.lan_index.proofs.words.ChunkWords.slots_at.Goals as goal
@@ -8,7 +8,7 @@ pub returns-then-chunk-len-clause-within : goal.returns-then-chunk-len-clause-wi
 returns-then-chunk-len-clause-within c =
     let v = c.self.inside in
     let n = c.args.chunk in
-    let front = ap (λ (k : Chunked). first_slot k.words n) c.self.view_is in
+    let front = ap (λ (k : Chunked). slots_ahead k.words n) c.self.view_is in
     let all = ap (λ (k : Chunked). k.slots) c.self.view_is in
     let less : n + 1 < length v.words = omega (arith, c.len.ensures) in
     let left = later_slot small_chunks v.words v.slots v.bytes n c.self.invariant less in

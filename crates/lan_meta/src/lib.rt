@@ -8,7 +8,9 @@ mod page;
 mod reading;
 mod rules;
 mod values;
+mod writing;
 
 pub use message::{Message, MetaFault};
 pub use page::{BuiltPage, BuiltPages, ColumnMeta, Layout, PageMeta, PageMetas};
 pub use reading::read_column;
+pub use writing::write_column;

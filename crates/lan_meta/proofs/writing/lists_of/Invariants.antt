@@ -1,4 +1,4 @@
-use Rattle.std.proofs.Common.{◌≡◌, ◌+◌, ◌≤◌, take, count_by}
+use Rattle.std.proofs.Common.{◌≡◌, ◌≤◌, take, count_by}
 use Rattle.lan_meta.specs.Written.{is_list}
 use Rattle.lan_meta.proofs.writing.lists_of.Given as goal
 

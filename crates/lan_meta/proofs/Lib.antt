@@ -1,2 +1,7 @@
+pub mod FewPages
+pub mod LawTerms
 pub mod Lifting
+pub mod OneColumn
+pub mod PagesBack
 pub mod Ranges
+pub mod ReadBack

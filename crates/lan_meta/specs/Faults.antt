@@ -1,5 +1,4 @@
 -- The faults of the wire in a message of column metadata.
-use Rattle.std.specs.Prelude.{ℕ}
 use Rattle.lan_wire.specs.declared.item.WireFault.{WireFault}
 use Rattle.lan_wire.specs.declared.item.WireKind.{WireKind}
 use Rattle.lan_wire.specs.declared.item.WireKind.TheVariants.{Refused}

@@ -1,9 +1,9 @@
 -- What the message of a page's layout says.
-use Rattle.std.specs.Prelude.{◌≡◌, ◌⊎◌, ℕ, cond, nat_lt, List, [], ◌++◌, Option, Some, None, option_map, map}
+use Rattle.std.specs.Prelude.{◌≡◌, ◌⊎◌, ℕ, cond, nat_lt, List, ◌++◌, Option, None, option_map, map}
 use Rattle.lan_bytes.specs.Placed.{Placed}
 use Rattle.lan_levels.specs.declared.shape.ValueKind.{ValueKind}
 use Rattle.lan_wire.specs.declared.item.Item.{Item}
-use Rattle.lan_wire.specs.Messages.{ReadsAs, ReadsValue, FailsPlainly, FailsOr}
+use Rattle.lan_wire.specs.Messages.{ReadsAs, ReadsValue, FailsOr}
 use Rattle.lan_wire.specs.Rules.{Rules, closed_to}
 use Rattle.lan_wire.specs.Values.{num_under, nums_under, part_under, Under}
 use Rattle.lan_meta.specs.declared.layout.SaidLayout.{SaidLayout}

@@ -1,5 +1,5 @@
 -- What the message of a page says, down to its layout.
-use Rattle.std.specs.Prelude.{◌≡◌, ◌⊎◌, ℕ, List, None}
+use Rattle.std.specs.Prelude.{◌≡◌, ◌⊎◌, List, None}
 use Rattle.lan_bytes.specs.Placed.{Placed}
 use Rattle.lan_wire.specs.declared.item.Item.{Item}
 use Rattle.lan_wire.specs.Messages.{ReadsAs, FailsOr}

@@ -1,11 +1,11 @@
 -- The rules of a page of a leaf.
-use Rattle.std.specs.Prelude.{◌≡◌, ◌⊎◌, ℕ, ◌+◌, ◌*◌, ◌/◌, ◌-◌, ◌<◌, ◌≤◌, ⊤, cond, nat_lt, List, [], ◌∷◌, length, slice_index, Option, Some, None, MatchOption, All, map}
+use Rattle.std.specs.Prelude.{◌≡◌, ℕ, ◌+◌, ◌*◌, ◌/◌, ◌-◌, ◌<◌, ◌≤◌, ⊤, cond, nat_lt, List, length, slice_index, Option, Some, None, MatchOption, All, map}
 use Rattle.std.specs.List.{zip}
 use Rattle.lan_model.specs.declared.range.Range.{Range}
 use Rattle.lan_model.specs.declared.tree.Layer.{Layer}
 use Rattle.lan_model.specs.Fits.{width}
 use Rattle.lan_model.specs.Leaves.{PlainLeaf}
-use Rattle.lan_model.specs.Plain.{PlainType, primitive, vector, text, bytes}
+use Rattle.lan_model.specs.Plain.{PlainType, primitive, vector}
 use Rattle.lan_levels.specs.Codes.{FitCodes, states_of}
 use Rattle.lan_levels.specs.SlotsOf.{lists_in}
 use Rattle.lan_levels.specs.declared.shape.ValueKind.{ValueKind}

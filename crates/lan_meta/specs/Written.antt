@@ -52,10 +52,13 @@ direct_text layout = spelling_of ((1, part (layout_text layout)) ∷ [])
 abbrev pub encoding_text : Layout → List ℕ
 encoding_text layout = spelling_of ((2, part (direct_text layout)) ∷ [])
 
--- a page behind so many rows, which are its priority
+-- a page's fields: where its buffers lie, its rows, how it is encoded, and the rows before it, which are its priority
+abbrev pub parts_written : List ℕ → List ℕ → ℕ → List ℕ → ℕ → List WrittenField
+parts_written offsets sizes rows encoding before = (1, packed offsets) ∷ (2, packed sizes) ∷ (3, num rows) ∷ (4, part encoding) ∷ (5, num before) ∷ []
+
+-- a page behind so many rows
 abbrev pub page_written : ℕ → PageMeta → List WrittenField
-page_written before page =
-    (1, packed (map (λ (b : Range). b.at) page.buffers)) ∷ (2, packed (map (λ (b : Range). b.len) page.buffers)) ∷ (3, num page.rows) ∷ (4, part (encoding_text page.layout)) ∷ (5, num before) ∷ []
+page_written before page = parts_written (map (λ (b : Range). b.at) page.buffers) (map (λ (b : Range). b.len) page.buffers) page.rows (encoding_text page.layout) before
 
 abbrev pub page_texts : ℕ → List PageMeta → List (List ℕ)
 page_texts before [] = []

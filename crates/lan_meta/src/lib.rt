@@ -2,13 +2,16 @@
 #![tactic(auto)]
 
 mod encoding;
+pub mod laws;
 mod layout;
 mod message;
 mod page;
 mod reading;
 mod rules;
 mod values;
+mod writing;
 
 pub use message::{Message, MetaFault};
 pub use page::{BuiltPage, BuiltPages, ColumnMeta, Layout, PageMeta, PageMetas};
 pub use reading::read_column;
+pub use writing::write_column;

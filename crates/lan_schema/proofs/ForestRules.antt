@@ -1,6 +1,6 @@
 -- Fields that lie flat and obey the rules: their trees have distinct numbers, and each field is sound in its place.
 use Rattle.std.proofs.Common.{◌≡◌, ℕ, ◌+◌, ◌≤◌, Bool, true, false, cond, List, [], ◌∷◌, refl, sym, ap, subst, ◌∙◌, arith, negsuc, pos}
-use Rattle.std.specs.Prelude.{ℤ, not, nat_lt, ◌&&◌, ◌||◌}
+use Rattle.std.specs.Prelude.{ℤ, nat_lt, ◌&&◌}
 use Rattle.std.specs.Str.{bytes_eq}
 use Rattle.std.proofs.lemmas.Bool.{or_parts, or_from, or_left, or_right, and_from, both_ways, not-false, cond-true, cond-false, cond_both}
 use Rattle.std.proofs.lemmas.Slice.Eq.{bytes_eq-Decides}

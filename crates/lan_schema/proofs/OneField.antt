@@ -8,7 +8,7 @@ use Rattle.lan_schema.specs.declared.reading.TheConstants.{FIELD}
 use Rattle.lan_schema.specs.FieldMessage.{Flat, SaysField, FailsField}
 
 pub one_field : (message : Placed) (f g : Flat) → SaysField message f → SaysField message g → f ≡ g
-one_field message f g p q = reads_as_one (open_to FIELD) _ message f g (λ items a b. a ∙ sym b) p q
+one_field message f g p q = reads_as_one (open_to FIELD) _ message f g (λ items r a b. a ∙ sym b) p q
 
 pub no_field : (message : Placed) (f : Flat) (fault : WireFault) → SaysField message f → FailsField message fault → ⊥
 no_field message f fault p b = reads_or_fails (open_to FIELD) _ message f fault p b

@@ -1,5 +1,5 @@
 -- A message stands for one list of fields, and for none where a fault stands.
-use Rattle.std.proofs.Common.{◌≡◌, ℕ, Bool, true, false, cond, List, [], ◌∷◌, ◌++◌, Result, Ok, Err, refl, sym, ap, subst, ◌∙◌, arith, inl, inr}
+use Rattle.std.proofs.Common.{◌≡◌, ℕ, Bool, true, false, List, [], ◌∷◌, refl, sym, ap, subst, ◌∙◌, arith, inl, inr}
 use Rattle.std.specs.Prelude.{ℤ, negsuc, ◌&&◌}
 use Rattle.std.proofs.lemmas.Bool.{true≢false}
 use Rattle.lan_bytes.specs.Placed.{Placed}
@@ -8,7 +8,7 @@ use Rattle.lan_wire.specs.declared.item.WireFault.{WireFault}
 use Rattle.lan_wire.specs.declared.item.Item.{Item}
 use Rattle.lan_wire.specs.Values.{parts_under}
 use Rattle.lan_wire.proofs.LawTerms.{one_reading as one_items}
-use Rattle.lan_wire.proofs.Nested.{reads_as_one, reads_or_fails, read_each_one, read_each_or_fail}
+use Rattle.lan_wire.proofs.Nested.{reads_as_one, reads_or_fails, read_each_one, read_each_meets}
 use Rattle.lan_schema.specs.declared.fault.SchemaFault.{SchemaFault}
 use Rattle.lan_schema.specs.declared.fault.SchemaFault.TheVariants.{Wire, Empty, BadId, SameId, BadParent, NoName, SameName, UnknownType, Children, TooDeep, TooManyLeaves, Memory}
 use Rattle.lan_schema.specs.FieldMessage.{Flat, SaysField, FailsField}
@@ -21,7 +21,7 @@ use Rattle.lan_schema.proofs.OneField.{one_field, no_field}
 use Rattle.lan_schema.proofs.Typing.{some_fields}
 
 flats_once : (message : Placed) (number : ℕ) (fs gs : List Flat) → SaysFields message number fs → SaysFields message number gs → fs ≡ gs
-flats_once message number fs gs p q = reads_as_one (listing number) (SayAll number) message fs gs (λ items a b. read_each_one SaysField one_field (parts_under number items) fs gs a b) p q
+flats_once message number fs gs p q = reads_as_one (listing number) (SayAll number) message fs gs (λ items r a b. read_each_one SaysField one_field (parts_under number items) fs gs a b) p q
 
 pub one_reading : (message : Placed) (number : ℕ) (f g : PlainFields ℕ) → FieldsOf message number f → FieldsOf message number g → f ≡ g
 one_reading message number f g p q =
@@ -32,7 +32,7 @@ one_reading message number f g p q =
 broken : (message : Placed) (number : ℕ) (fs : List Flat) (fault : WireFault) → SaysFields message number fs → FieldsBreakOff message number fault → ⊥
 broken message number fs fault p b = elim b [
   | inl w ↦ reads_or_fails (listing number) (SayAll number) message fs fault p w
-  | inr w ↦ read_each_or_fail SaysField FailsField no_field (parts_under number w.items) fs fault (subst (λ (items : List Item). SayAll number items fs) (one_items (listing number) message p.items w.items p.reads w.reads) p.said) w.said
+  | inr w ↦ read_each_meets SaysField FailsField fault (λ part f says fails. no_field part f fault says fails) (parts_under number w.items) fs (subst (λ (items : List Item). SayAll number items fs) (one_items (listing number) message p.items w.items p.reads w.reads) p.said) w.said
 ]
 
 not_has : (test : Test) (id : ℤ) (before fs : List Flat) → Has test id before fs → Lacks test before fs → ⊥

@@ -1,5 +1,5 @@
 -- What is written for a field says that field.
-use Rattle.std.proofs.Common.{◌≡◌, ℕ, ◌^◌, ◌<◌, Bool, true, false, [], refl, sym, arith}
+use Rattle.std.proofs.Common.{ℕ, ◌^◌, ◌<◌, Bool, true, false, [], refl, sym, arith}
 use Rattle.lan_wire.specs.Rules.{open_to}
 use Rattle.lan_wire.specs.Written.{flag_number, CanWriteAll, AreShort, items_placed}
 use Rattle.lan_wire.proofs.LawTerms.{below_64, written_read, text_back, signed_back, flag_back}

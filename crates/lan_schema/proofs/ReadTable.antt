@@ -1,5 +1,5 @@
 -- What sound trees stand for are a table's fields.
-use Rattle.std.proofs.Common.{◌≡◌, ℕ, zero, suc, ◌+◌, ◌^◌, ◌<◌, ◌≤◌, Bool, true, false, cond, List, [], ◌∷◌, ◌++◌, length, length-append, get_or, refl, sym, ap, subst, ◌∙◌, arith, pos, negsuc}
+use Rattle.std.proofs.Common.{◌≡◌, ℕ, zero, suc, ◌+◌, ◌^◌, ◌<◌, ◌≤◌, false, cond, List, [], ◌∷◌, length, length-append, refl, sym, ap, subst, ◌∙◌, arith, pos, negsuc}
 use Rattle.std.specs.Prelude.{ℤ, nat_lt, ◌&&◌, ◌≢◌, Option, Some, None, option_map, All}
 use Rattle.std.specs.Str.{bytes_eq, IsUtf8}
 use Rattle.std.proofs.lemmas.Bool.{both_ways, ltb-false}
@@ -7,7 +7,7 @@ use Rattle.std.proofs.lemmas.List.{append-nil}
 use Rattle.std.proofs.lemmas.List.Elements.{All-append}
 use Rattle.std.proofs.lemmas.Slice.Eq.{bytes_eq-Decides}
 use Rattle.lan_model.specs.Plain.{PlainType, primitive, vector, text, bytes, list, struct, PlainField, field, PlainFields, no_fields, one_field}
-use Rattle.lan_model.specs.Table.{name_of, names_of, AreNamed, IsField, AreFields, HasNamedItems, HaveNamedItems, depths_of, all_depths}
+use Rattle.lan_model.specs.Table.{name_of, names_of, IsField, AreFields, HasNamedItems, HaveNamedItems, depths_of, all_depths}
 use Rattle.lan_wire.specs.Readers.{IsInt32}
 use Rattle.lan_schema.specs.declared.shape.Shape.{Shape}
 use Rattle.lan_schema.specs.declared.shape.Shape.TheVariants as shape
@@ -15,11 +15,11 @@ use Rattle.lan_schema.specs.FieldTree.{signed}
 use Rattle.lan_schema.specs.FieldsOf.{typed, type_of, natural, labelled, with_members, fields_of}
 use Rattle.lan_schema.specs.Forest.{Label, Trees, none, tree, Absent, Apart, AreDistinct}
 use Rattle.lan_schema.specs.Listed.{is_negative}
-use Rattle.lan_schema.specs.Logical.{leaf_type, IsLeafType}
+use Rattle.lan_schema.specs.Logical.{IsLeafType}
 use Rattle.lan_schema.specs.Shapes.{shape_of, takes}
-use Rattle.lan_schema.specs.Written.{trees_in, tree_before, trees_of, CanTellType, CanTell, CanTellAll, AreTableFields}
+use Rattle.lan_schema.specs.Written.{trees_in, trees_of, CanTellType, CanTellAll, AreTableFields}
 use Rattle.lan_schema.proofs.ForestRules.{leaf_at, leaves_within, AreSoundTrees}
-use Rattle.lan_schema.proofs.LaidRules.{width, Unlike, IsSound, AreSound}
+use Rattle.lan_schema.proofs.LaidRules.{Unlike, IsSound, AreSound}
 use Rattle.lan_schema.proofs.LeafNames.{named_once}
 use Rattle.lan_schema.proofs.TableRules.{AllSome, AllApart, Shallow, names_first}
 use Rattle.lan_schema.proofs.WrittenTrees.{small_signed}

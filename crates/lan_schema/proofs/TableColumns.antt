@@ -1,8 +1,8 @@
 -- What a table's fields may be doesn't turn on their numbers.
-use Rattle.std.proofs.Common.{◌≡◌, ℕ, ◌+◌, ◌<◌, ◌≤◌, List, [], ◌∷◌, ◌++◌, length, map, refl, sym, ap, subst, ◌∙◌}
+use Rattle.std.proofs.Common.{◌≡◌, ℕ, ◌+◌, ◌<◌, ◌≤◌, List, [], ◌∷◌, length, map, refl, sym, ap, subst}
 use Rattle.std.specs.Prelude.{◌↔◌, ◌≢◌, All, AllPairs}
 use Rattle.lan_model.specs.Plain.{primitive, vector, text, bytes, list, struct, PlainField, field, PlainFields, no_fields, one_field, fields_from, unnumbered, all_unnumbered}
-use Rattle.lan_model.specs.Table.{name_of, names_of, AreNamed, IsField, AreFields, HasNamedItems, HaveNamedItems, depths_of, all_depths, Column, AreColumns}
+use Rattle.lan_model.specs.Table.{name_of, names_of, IsField, AreFields, HasNamedItems, HaveNamedItems, depths_of, all_depths, AreColumns}
 use Rattle.lan_schema.specs.Written.{AreTableFields}
 
 name_same : {I : Type 0} (f : PlainField I) → name_of (unnumbered f) ≡ name_of f

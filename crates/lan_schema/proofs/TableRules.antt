@@ -1,19 +1,18 @@
 -- The trees of a table's fields obey the rules.
-use Rattle.std.proofs.Common.{◌≡◌, ℕ, zero, suc, ◌+◌, ◌^◌, ◌<◌, ◌≤◌, Bool, true, false, cond, List, [], ◌∷◌, ◌++◌, length, length-append, get_or, refl, sym, ap, subst, ◌∙◌, arith, pos, negsuc}
-use Rattle.std.specs.Prelude.{ℤ, not, nat_lt, nat_eq, ◌&&◌, ◌≢◌, is_some, Option, Some, All, AllPairs}
+use Rattle.std.proofs.Common.{◌≡◌, ℕ, zero, suc, ◌+◌, ◌^◌, ◌<◌, ◌≤◌, Bool, true, false, cond, List, [], ◌∷◌, ◌++◌, length, length-append, refl, sym, ap, subst, ◌∙◌, arith, negsuc}
+use Rattle.std.specs.Prelude.{ℤ, not, nat_lt, ◌&&◌, ◌≢◌, is_some, Option, All, AllPairs}
 use Rattle.std.specs.Str.{bytes_eq}
-use Rattle.std.proofs.lemmas.Bool.{cond-true, cond-false, le-ltb, lt-ltb, eq-eqb}
+use Rattle.std.proofs.lemmas.Bool.{le-ltb, lt-ltb, eq-eqb}
 use Rattle.std.proofs.lemmas.Slice.Eq.{bytes_eq-Decides}
-use Rattle.lan_model.specs.declared.tree.Primitive.{Primitive}
 use Rattle.lan_model.specs.Plain.{PlainType, primitive, vector, text, bytes, list, struct, PlainField, field, PlainFields, no_fields, one_field}
-use Rattle.lan_model.specs.Table.{name_of, names_of, AreNamed, IsField, AreFields, HasNamedItems, HaveNamedItems, depths_of, all_depths}
+use Rattle.lan_model.specs.Table.{name_of, names_of, IsField, AreFields, HasNamedItems, HaveNamedItems, depths_of, all_depths}
 use Rattle.lan_schema.specs.declared.shape.Shape.{Shape}
 use Rattle.lan_schema.specs.declared.shape.Shape.TheVariants as shape
 use Rattle.lan_schema.specs.FieldMessage.{Flat}
 use Rattle.lan_schema.specs.FieldTree.{list_name, logical_of, signed}
 use Rattle.lan_schema.specs.FieldTree as texts
 use Rattle.lan_schema.specs.FieldsOf.{ObeyRules}
-use Rattle.lan_schema.specs.Forest.{Label, Trees, none, tree, under, laid, AreDistinct}
+use Rattle.lan_schema.specs.Forest.{Trees, none, laid, AreDistinct}
 use Rattle.lan_schema.specs.Listed.{is_negative, leaves_in}
 use Rattle.lan_schema.specs.Logical.{leaf_type, IsLeafType}
 use Rattle.lan_schema.specs.Shapes.{shape_of, takes}

@@ -14,7 +14,6 @@ use Rattle.lan_schema.specs.FieldMessage.{Flat, SaysField}
 use Rattle.lan_schema.specs.FieldTree.{all_messages}
 use Rattle.lan_schema.specs.FieldsOf.{ObeyRules, FieldsOf, fields_of}
 use Rattle.lan_schema.specs.Forest.{tree, same, label_of, forest}
-use Rattle.lan_schema.specs.Written.{IsWritable}
 use Rattle.lan_schema.proofs.ForestRules.{AreSoundTrees, forest_rules}
 use Rattle.lan_schema.proofs.ReadTable.{AreTold, AreTellable, tellable}
 use Rattle.lan_schema.proofs.WrittenFields.{written_read}

@@ -16,9 +16,9 @@ use Rattle.lan_wire.proofs.OneReading.{one_reading, no_reading}
 
 -- what a message says is one thing, where one list of items says one thing
 pub reads_as_one : {M : Type 0} (rules : Rules) (Reading : List Item → M → Type 0) (message : Placed) (m n : M)
-    → ((items : List Item) → Reading items m → Reading items n → m ≡ n) → ReadsAs rules Reading message m → ReadsAs rules Reading message n → m ≡ n
+    → ((items : List Item) → ReadsItems rules message items → Reading items m → Reading items n → m ≡ n) → ReadsAs rules Reading message m → ReadsAs rules Reading message n → m ≡ n
 reads_as_one {M} rules Reading message m n one p q =
-    one q.items (subst (λ (xs : List Item). Reading xs m) (one_reading rules message p.items q.items p.reads q.reads) p.said) q.said
+    one q.items q.reads (subst (λ (xs : List Item). Reading xs m) (one_reading rules message p.items q.items p.reads q.reads) p.said) q.said
 
 pub reads_or_fails : {M : Type 0} (rules : Rules) (Reading : List Item → M → Type 0) (message : Placed) (m : M) (fault : WireFault) → ReadsAs rules Reading message m → FailsToRead rules message fault → ⊥
 reads_or_fails {M} rules Reading message m fault p f = no_reading rules message p.items fault p.reads f
@@ -64,14 +64,19 @@ read_each_one {M} Say one [] ms ns p q = p ∙ sym q
 read_each_one {M} Say one (part ∷ parts) ms ns p q =
     p.2 ∙ same_cons p.0 q.0 p.1 q.1 (one part p.0 q.0 p.3 q.3) (read_each_one Say one parts p.1 q.1 p.4 q.4) ∙ sym q.2
 
--- where a message that says a value has no fault, none of those has one
-pub read_each_or_fail : {M F : Type 0} (Say : Placed → M → Type 0) (Fail : Placed → F → Type 0) → ((part : Placed) (m : M) (fault : F) → Say part m → Fail part fault → ⊥)
-    → (parts : List Placed) (ms : List M) (fault : F) → ReadEach Say parts ms → FailsInOne Fail parts fault → ⊥
-read_each_or_fail {M} {F} Say Fail none [] ms fault p f = f
-read_each_or_fail {M} {F} Say Fail none (part ∷ parts) ms fault p f = elim f [
-  | inl w ↦ none part p.0 fault p.3 w
-  | inr w ↦ read_each_or_fail Say Fail none parts p.1 fault p.4 w
+-- a message that says a value and fails is one of those that say values, where one of them fails
+pub read_each_meets : {M F X : Type 0} (Say : Placed → M → Type 0) (Fail : Placed → F → Type 0) (fault : F) → ((part : Placed) (m : M) → Say part m → Fail part fault → X)
+    → (parts : List Placed) (ms : List M) → ReadEach Say parts ms → FailsInOne Fail parts fault → X
+read_each_meets {M} {F} {X} Say Fail fault meet [] ms p f = absurd f
+read_each_meets {M} {F} {X} Say Fail fault meet (part ∷ parts) ms p f = elim f [
+  | inl w ↦ meet part p.0 p.3 w
+  | inr w ↦ read_each_meets Say Fail fault meet parts p.1 p.4 w
 ]
+
+-- a message whose one part says one value says it
+pub under_one : {M : Type 0} (rules : Rules) (number : ℕ) (Say : Placed → M → Type 0) → ((part : Placed) (m n : M) → Say part m → Say part n → m ≡ n)
+    → (message : Placed) (m n : M) → ReadsAs rules (Under number Say) message m → ReadsAs rules (Under number Say) message n → m ≡ n
+under_one {M} rules number Say one message m n p q = reads_as_one rules (Under number Say) message m n (λ items r a b. under_both number Say Say items m n (λ part x y. one part m n x y) a b) p q
 
 -- one message more
 pub read_each_more : {M : Type 0} (Say : Placed → M → Type 0) (parts : List Placed) (ms : List M) (part : Placed) (m : M) → ReadEach Say parts ms → Say part m → ReadEach Say (parts ++ part ∷ []) (ms ++ m ∷ [])

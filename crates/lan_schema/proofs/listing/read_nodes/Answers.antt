@@ -1,10 +1,10 @@
 use Rattle.std.proofs.Common.{Bool, List, cond, sym, subst, ap, ◌∙◌, inr}
 use Rattle.lan_bytes.specs.Placed.{Placed}
 use Rattle.lan_wire.specs.declared.rules.Kind.TheVariants.{Messages, Past}
-use Rattle.lan_wire.specs.Messages.{ReadsItems, ReadEach, FailsInOne}
+use Rattle.lan_wire.specs.Messages.{FailsInOne}
 use Rattle.lan_wire.specs.Rules.{Rules, kind_at}
-use Rattle.lan_wire.proofs.Nested.{Walked, walked_more, walked_fails, walked_all}
-use Rattle.lan_schema.specs.FieldMessage.{Flat, SaysField, FailsField, flat_of}
+use Rattle.lan_wire.proofs.Nested.{Walked, walked_more, walked_fails}
+use Rattle.lan_schema.specs.FieldMessage.{Flat, SaysField, FailsField}
 use Rattle.lan_schema.proofs.ForestLaws.{nat_same}
 use Rattle.lan_schema.proofs.listing.read_nodes.Goals as goal
 

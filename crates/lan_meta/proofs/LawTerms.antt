@@ -1,0 +1,4 @@
+-- The laws' terms: what a proof of another crate cites of this one.
+pub use Rattle.lan_meta.proofs.FewPages.{few_pages}
+pub use Rattle.lan_meta.proofs.OneColumn.{one_column, column_fails}
+pub use Rattle.lan_meta.proofs.PagesBack.{column_back}

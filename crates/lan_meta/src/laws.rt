@@ -1,0 +1,33 @@
+//! What holds of columns' metadata, each law as the contract of a function with an empty body. A proof of
+//! another crate cites a law by its term in `proofs/LawTerms.antt`.
+
+ghost use Rattle.std.specs.Prelude.{◌≡◌, ℕ, ◌*◌, ◌^◌, ◌<◌, ◌≤◌, List, length, sum_by};
+ghost use Rattle.lan_bytes.specs.Placed.{Placed};
+ghost use Rattle.lan_model.specs.Leaves.{PlainLeaf};
+ghost use Rattle.lan_meta.specs.declared.message.MetaFault.{MetaFault};
+ghost use Rattle.lan_meta.specs.declared.message.MetaFault.TheVariants.{Memory};
+ghost use Rattle.lan_meta.specs.declared.page.PageMeta.{PageMeta};
+ghost use Rattle.lan_meta.specs.Columns.{ColumnOf, RefusesColumn};
+ghost use Rattle.lan_meta.specs.Written.{column_text};
+
+/// Bytes are the metadata of one column of a leaf at most.
+pub fn one_column()
+    ensures { (part : Placed) (leaf : PlainLeaf) (end : ℕ) (ps qs : List PageMeta) → ColumnOf part leaf end ps → ColumnOf part leaf end qs → ps ≡ qs }
+{}
+
+/// Where bytes are a column's, only memory can be wanting.
+pub fn columns_are_not_refused()
+    ensures { (part : Placed) (leaf : PlainLeaf) (end : ℕ) (ps : List PageMeta) (error : MetaFault) → ColumnOf part leaf end ps → RefusesColumn part leaf end error → error ≡ Memory }
+{}
+
+/// A column's metadata has at least two bytes a page.
+pub fn pages_are_few()
+    ensures { (part : Placed) (leaf : PlainLeaf) (end : ℕ) (ps : List PageMeta) → ColumnOf part leaf end ps → 2 * length ps ≤ length part.bytes }
+{}
+
+/// What is written of a column's pages is read as them wherever it lies, where its text is below 2^64 bytes
+/// and so are the rows.
+pub fn written_columns_are_read()
+    ensures { (bytes : Placed) (leaf : PlainLeaf) (end at : ℕ) (pages : List PageMeta) → ColumnOf bytes leaf end pages → sum_by (λ (page : PageMeta). page.rows) pages < 2 ^ 64
+        → length (column_text pages) < 2 ^ 64 → ColumnOf (record { base = at; bytes = column_text pages }) leaf end pages }
+{}

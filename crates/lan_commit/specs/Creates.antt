@@ -1,6 +1,7 @@
 -- What creating a dataset answers, and leaves.
-use Rattle.std.specs.Prelude.{◌≡◌, ℕ, ◌⊎◌, List, [], ◌∷◌, Option, Some, None, Result, Ok, Err}
+use Rattle.std.specs.Prelude.{◌≡◌, ℕ, ◌⊎◌, ⊤, List, [], ◌∷◌, Option, Some, None, Vec, Result, Ok, Err}
 use Rattle.std.specs.Option.{ForSome}
+use Rattle.std.specs.declared.alloc.Global.{Global}
 use Rattle.lan_model.specs.Plain.{PlainField}
 use Rattle.lan_store.specs.declared.name.Object.{Object}
 use Rattle.lan_store.specs.Objects.{and_then}
@@ -23,3 +24,12 @@ Creates fields before now (Err (Limit which number)) = ForSome before NoneListed
 Creates fields before now (Err (Raced name)) = (name ≡ manifest_name 1) × ForSome before (λ _. ⊥) × (now ≡ before)
 Creates fields before now (Err (Store name)) = (now ≡ before) ⊎ IsCreated fields before now
 Creates fields before now (Err Memory) = now ≡ before
+
+-- the one object of a new dataset, where none is listed and no limit is reached
+abbrev pub PreparesCreate : List (PlainField ℕ) → Option (List Object) → Result (Vec Object Global) CommitFault → Type 0
+PreparesCreate fields before (Ok puts) = ForSome before NoneListed × (first_limit fields ≡ None) × (puts.items ≡ first_object fields ∷ [])
+PreparesCreate fields before (Err (AlreadyThere version)) = ForSome before (λ all. IsNewest all version)
+PreparesCreate fields before (Err (Limit which number)) = ForSome before NoneListed × (first_limit fields ≡ Some (which, number))
+PreparesCreate fields before (Err (Raced name)) = ⊥
+PreparesCreate fields before (Err (Store name)) = ⊤
+PreparesCreate fields before (Err Memory) = ⊤

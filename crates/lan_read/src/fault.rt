@@ -1,20 +1,19 @@
 ghost use Rattle.std.specs.Prelude.{◌≡◌};
 ghost use Rattle.lan_read.specs.declared.fault.ReadFault.TheVariants.{Memory};
-ghost use Rattle.lan_read.specs.declared.fault.FragmentFault.TheVariants as fragment;
 
 use lan_file::FileReason;
 use lan_store::Name;
 use std::alloc::AllocError;
 
 /// Why an object is no manifest that is read.
-#[derive(Clone, Copy, Debug)]
+#[derive(Debug, Drop)]
 pub enum ManifestReason {
     /// It isn't in the writer's own spelling; at 0.
     Plain,
 }
 
 /// Why a stored object is outside of what is read. The first three are a manifest's.
-#[derive(Clone, Copy, Debug)]
+#[derive(Debug, Drop)]
 pub enum Reason {
     /// No object of the name is held; at 0.
     Missing,
@@ -27,7 +26,7 @@ pub enum Reason {
     File(FileReason),
 }
 
-/// Why the newest version isn't opened.
+/// Why a version isn't read.
 #[derive(Debug, Drop)]
 pub enum ReadFault {
     /// No version is listed.
@@ -44,23 +43,5 @@ impl From<AllocError> for ReadFault {
 
     fn from(_: AllocError) -> Self {
         ReadFault::Memory
-    }
-}
-
-/// Why the rows of a fragment aren't read.
-#[derive(Debug, Drop)]
-pub enum FragmentFault {
-    /// A data file isn't read: why, and at which byte, counted from its front.
-    Outside(Name, FileReason, u64),
-    /// The store failed at this name.
-    Store(Name),
-    Memory,
-}
-
-impl From<AllocError> for FragmentFault {
-    ghost from_gives = { λ _ e. e ≡ fragment.Memory };
-
-    fn from(_: AllocError) -> Self {
-        FragmentFault::Memory
     }
 }

@@ -1,16 +1,18 @@
 // The rows of a fragment.
-ghost use Rattle.std.specs.Prelude.{◌≡◌, ◌≤◌, Some, IsErrOf, map};
+ghost use Rattle.std.specs.Prelude.{map, IsErrOf};
 ghost use Rattle.std.specs.Option.{ForSome};
-ghost use Rattle.lan_store.specs.declared.name.Name.{Name};
-ghost use Rattle.lan_store.specs.Causes.{HasCause};
 ghost use Rattle.lan_model.specs.Plain.{plain_field};
 ghost use Rattle.lan_manifest.specs.Stage.{IsOneColumn, IsOneFile};
 ghost use Rattle.lan_read.specs.Fragments.{ReadsFragment};
+ghost use Rattle.lan_store.specs.Budget.{ranges};
+ghost use Rattle.lan_store.specs.Looked.{Looked};
+ghost use Rattle.lan_read.specs.Failures.{read_failure};
 
-use crate::fault::FragmentFault;
+use crate::fault::{ReadFault, Reason};
 use lan_file::{FileFault, read_plain};
 use lan_manifest::Fragment;
 use lan_model::{FieldList, Rows};
+use lan_store::laws::looks_add_up;
 use lan_store::{Dir, Name, Store};
 use std::alloc::Global;
 
@@ -20,24 +22,23 @@ pub fn read_fragment<S: Store>(
     store: &mut S,
     fields: &FieldList,
     fragment: &Fragment,
-) -> Result<Rows, FragmentFault>
+) -> Result<Rows, ReadFault>
     requires column { IsOneColumn (map plain_field fields.now) }
     requires file { IsOneFile fragment.now }
-    ensures kept { S.objects store.new ≡ S.objects store.old }
-    ensures reads { ForSome (S.objects store.old) (λ all. ReadsFragment all (map plain_field fields.now) fragment.now result) }
-    ensures cause { HasCause ((name : Name) × IsErrOf result (FragmentFault.Store name)) (S.faults store.old) (S.faults store.new) }
-    ensures told { (name : Name) → IsErrOf result (FragmentFault.Store name) → ForSome (S.objects store.old) (λ _. S.failed store.new ≡ Some name) }
-    ensures clashes { S.clashes store.old ≤ S.clashes store.new }
+    ensures looked { Looked (read_failure result) (ranges 4) (S.tells store.old) (S.tells store.new) }
+    ensures version { IsErrOf result ReadFault.NoDataset → ⊥ }
+    ensures reads { ForSome (S.tells store.old).objects (λ all. ReadsFragment all (map plain_field fields.now) fragment.now result) }
 {
+    looks_add_up();
     let field = fields.at(0);
     let file = fragment.files.at(0);
     let name = Name::of(alloc, Dir::Data, file.path.as_str())?;
     match read_plain(alloc, store, &name, field, fragment.rows) {
         Ok(rows) => Ok(rows),
         Err(FileFault::Outside(reason, place)) => {
-            Err(FragmentFault::Outside(name, reason, place))
+            Err(ReadFault::Outside(name, Reason::File(reason), place))
         }
-        Err(FileFault::Store) => Err(FragmentFault::Store(name)),
-        Err(FileFault::Memory) => Err(FragmentFault::Memory),
+        Err(FileFault::Store) => Err(ReadFault::Store(name)),
+        Err(FileFault::Memory) => Err(ReadFault::Memory),
     }
 }

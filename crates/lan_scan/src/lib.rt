@@ -1,6 +1,7 @@
 //! The rows of a version, printed as lines.
 #![tactic(auto)]
 
+pub mod laws;
 mod scanning;
 mod sending;
 

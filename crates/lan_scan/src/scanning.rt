@@ -1,24 +1,25 @@
 // The rows of a version, fragment by fragment.
-ghost use Rattle.std.specs.Prelude.{◌≡◌, ◌≤◌, ℕ, Some, All, IsErrOf, map};
+ghost use Rattle.std.specs.Prelude.{◌≡◌, ◌*◌, [], List, length, All, flat_map, map, IsErrOf};
 ghost use Rattle.std.specs.Option.{ForSome};
-ghost use Rattle.lan_store.specs.declared.name.Name.{Name};
+ghost use Rattle.lan_store.specs.Budget.{ranges};
 ghost use Rattle.lan_store.specs.Causes.{HasCause};
+ghost use Rattle.lan_store.specs.Looked.{Looked};
 ghost use Rattle.lan_rows.specs.Line.{line_of};
-ghost use Rattle.lan_model.specs.Plain.{plain_field};
+ghost use Rattle.lan_model.specs.Plain.{PlainValue, plain_field};
 ghost use Rattle.lan_model.specs.PlainTable.{column_of};
 ghost use Rattle.lan_manifest.specs.Manifests.{plain_manifest};
 ghost use Rattle.lan_manifest.specs.Stage.{IsOneColumn, IsOneFile};
 ghost use Rattle.lan_read.specs.Newest.{IsOpened};
 ghost use Rattle.lan_scan.specs.Printing.{PrintsAll, PrintsFragment};
-ghost use Rattle.lan_scan.specs.Scans.{Scans};
+ghost use Rattle.lan_scan.specs.Scans.{Scans, scan_failure};
 
 use crate::sending::{SendFault, print_rows};
-use lan_file::FileReason;
 use lan_manifest::{Fragment, Manifest};
 use lan_model::{Blob, FieldList};
-use lan_read::{FragmentFault, read_fragment};
+use lan_read::{ReadFault, read_fragment};
 use lan_rows::RowPrinter;
-use lan_store::{Name, Sink, Store, write_all};
+use lan_store::laws::looks_add_up;
+use lan_store::{Sink, Store, write_all};
 use std::alloc::{AllocError, Global};
 
 // Room for the bytes that wait for a write, and a line behind them.
@@ -27,22 +28,30 @@ const ROOM: usize = 1 << 17;
 /// Why not all rows were printed.
 #[derive(Debug, Drop)]
 pub enum ScanFault {
-    /// A data file isn't read: why, and at which byte, counted from the object's front.
-    Outside(Name, FileReason, u64),
-    /// The store failed at this name.
-    Store(Name),
+    /// A fragment's rows weren't read, or memory ran short.
+    Read(ReadFault),
     /// The sink failed.
     Write,
-    Memory,
+}
+
+impl From<ReadFault> for ScanFault {
+    ghost use Rattle.lan_scan.specs.declared.scanning.ScanFault.TheVariants.{Read};
+
+    ghost from_gives = { λ fault e. e ≡ Read fault };
+
+    fn from(fault: ReadFault) -> Self {
+        ScanFault::Read(fault)
+    }
 }
 
 impl From<AllocError> for ScanFault {
-    ghost use Rattle.lan_scan.specs.declared.scanning.ScanFault.TheVariants.{Memory};
+    ghost use Rattle.lan_read.specs.declared.fault.ReadFault.TheVariants.{Memory};
+    ghost use Rattle.lan_scan.specs.declared.scanning.ScanFault.TheVariants.{Read};
 
-    ghost from_gives = { λ _ e. e ≡ Memory };
+    ghost from_gives = { λ _ e. e ≡ Read Memory };
 
     fn from(_: AllocError) -> Self {
-        ScanFault::Memory
+        ScanFault::Read(ReadFault::Memory)
     }
 }
 
@@ -55,17 +64,15 @@ pub fn print_table<S: Store, O: Sink>(
     out: &mut O,
 ) -> Result<(), ScanFault>
     requires { IsOpened (plain_manifest manifest.now) }
-    ensures kept { S.objects store.new ≡ S.objects store.old }
 
-    // The sink got the lines of all rows; or the reason stands in a data file; or the sink got a front
-    // of the lines.
-    ensures scans { ForSome (S.objects store.old) (λ all. Scans all (plain_manifest manifest.now) (O.held out.old) (O.held out.new) result) }
+    // The sink got the lines of all rows; or, on any folder, whole lines of front rows where the reason
+    // stands in a data file, the store failed or memory ran short; or a front of such lines.
+    ensures looked { Looked (scan_failure result) (ranges (4 * length manifest.now.fragments)) (S.tells store.old) (S.tells store.new) }
+    ensures scans { ForSome (S.tells store.old).objects (λ all. Scans all (plain_manifest manifest.now) (O.held out.old) (O.held out.new) result) }
 
-    ensures store_cause { HasCause ((name : Name) × IsErrOf result (ScanFault.Store name)) (S.faults store.old) (S.faults store.new) }
-    ensures store_name { (name : Name) → IsErrOf result (ScanFault.Store name) → ForSome (S.objects store.old) (λ _. S.failed store.new ≡ Some name) }
-    ensures clashes { S.clashes store.old ≤ S.clashes store.new }
     ensures write_cause { HasCause (IsErrOf result ScanFault.Write) (O.faults out.old) (O.faults out.new) }
 {
+    looks_add_up();
     let mut printer = RowPrinter::new(alloc, &manifest.fields);
     let mut waiting = Blob::with_capacity(alloc, ROOM)?;
     print_fragments(alloc, store, manifest, &mut printer, &mut waiting, out)?;
@@ -86,14 +93,13 @@ fn print_fragments<S: Store, O: Sink>(
 ) -> Result<(), ScanFault>
     requires column { IsOneColumn (plain_manifest manifest.now).fields }
     requires files { All IsOneFile manifest.now.fragments }
-    ensures kept { S.objects store.new ≡ S.objects store.old }
-    ensures prints { ForSome (S.objects store.old) (λ all. PrintsAll all (plain_manifest manifest.now) (line_of (map column_of printer.old)) waiting.old waiting.new (O.held out.old) (O.held out.new) result) }
-    ensures store_cause { HasCause ((name : Name) × IsErrOf result (ScanFault.Store name)) (S.faults store.old) (S.faults store.new) }
-    ensures store_name { (name : Name) → IsErrOf result (ScanFault.Store name) → ForSome (S.objects store.old) (λ _. S.failed store.new ≡ Some name) }
-    ensures clashes { S.clashes store.old ≤ S.clashes store.new }
+    requires none { waiting.old ≡ [] }
+    ensures looked { Looked (scan_failure result) (ranges (4 * length manifest.now.fragments)) (S.tells store.old) (S.tells store.new) }
+    ensures prints { ForSome (S.tells store.old).objects (λ all. PrintsAll all (plain_manifest manifest.now) (line_of (map column_of printer.old)) waiting.new (O.held out.old) (O.held out.new) result) }
     ensures same { printer.new ≡ printer.old }
     ensures write_cause { HasCause (IsErrOf result ScanFault.Write) (O.faults out.old) (O.faults out.new) }
 {
+    looks_add_up();
     for fragment in manifest.fragments.as_slice() {
         print_fragment(
             alloc,
@@ -120,25 +126,15 @@ fn print_fragment<S: Store, O: Sink>(
 ) -> Result<(), ScanFault>
     requires column { IsOneColumn (map plain_field fields.now) }
     requires file { IsOneFile fragment.now }
-    ensures kept { S.objects store.new ≡ S.objects store.old }
-    ensures prints { ForSome (S.objects store.old) (λ all. PrintsFragment all (map plain_field fields.now) fragment.now (line_of (map column_of printer.old)) waiting.old waiting.new (O.held out.old) (O.held out.new) result) }
-    ensures store_cause { HasCause ((name : Name) × IsErrOf result (ScanFault.Store name)) (S.faults store.old) (S.faults store.new) }
-    ensures store_name { (name : Name) → IsErrOf result (ScanFault.Store name) → ForSome (S.objects store.old) (λ _. S.failed store.new ≡ Some name) }
-    ensures clashes { S.clashes store.old ≤ S.clashes store.new }
+    ensures looked { Looked (scan_failure result) (ranges 4) (S.tells store.old) (S.tells store.new) }
+    ensures prints { ForSome (S.tells store.old).objects (λ all. (before : List (List PlainValue)) → waiting.old ≡ flat_map (line_of (map column_of printer.old)) before → PrintsFragment all (map plain_field fields.now) fragment.now (line_of (map column_of printer.old)) before waiting.new (O.held out.old) (O.held out.new) result) }
     ensures same { printer.new ≡ printer.old }
     ensures write_cause { HasCause (IsErrOf result ScanFault.Write) (O.faults out.old) (O.faults out.new) }
 {
-    let rows = match read_fragment(alloc, store, fields, fragment) {
-        Ok(rows) => rows,
-        Err(FragmentFault::Outside(name, why, place)) => {
-            return Err(ScanFault::Outside(name, why, place));
-        }
-        Err(FragmentFault::Store(name)) => return Err(ScanFault::Store(name)),
-        Err(FragmentFault::Memory) => return Err(ScanFault::Memory),
-    };
+    let rows = read_fragment(alloc, store, fields, fragment)?;
     match print_rows(alloc, printer, &rows, waiting, out) {
         Ok(()) => Ok(()),
         Err(SendFault::Write) => Err(ScanFault::Write),
-        Err(SendFault::Memory) => Err(ScanFault::Memory),
+        Err(SendFault::Memory) => Err(ScanFault::Read(ReadFault::Memory)),
     }
 }

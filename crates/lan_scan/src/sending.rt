@@ -1,14 +1,15 @@
 // The lines of rows, to a sink by way of bytes that wait for the next write.
-ghost use Rattle.std.specs.Prelude.{◌≡◌, [], flat_map, map, OnOk, IsErrOf};
-ghost use Rattle.lan_model.specs.Plain.{plain_value};
+ghost use Rattle.std.specs.Prelude.{◌≡◌, ◌∷◌, ◌++◌, [], List, flat_map, map, OnOk, OnErr, IsErr, IsErrOf};
+ghost use Rattle.lan_model.specs.Plain.{PlainValue};
 ghost use Rattle.lan_model.specs.PlainTable.{column_of, row_of};
 ghost use Rattle.lan_store.specs.Causes.{HasCause};
+ghost use Rattle.lan_store.specs.Streams.{and_then_bytes};
 ghost use Rattle.lan_rows.specs.Line.{line_of};
-ghost use Rattle.lan_scan.specs.Sending.{Passes};
+ghost use Rattle.lan_scan.specs.Sending.{GotPart, Passes};
 
 use lan_model::{Blob, Row, Rows};
 use lan_rows::RowPrinter;
-use lan_store::{Sink, write_all};
+use lan_store::{Failed, Sink, write_all};
 use std::alloc::Global;
 
 /// Why not all lines were passed on.
@@ -30,7 +31,9 @@ pub fn print_rows<O: Sink>(
     waiting: &mut Blob,
     out: &mut O,
 ) -> Result<(), SendFault>
-    ensures passes { Passes (flat_map (line_of (map column_of printer.old)) (map row_of rows.now)) waiting.old waiting.new (O.held out.old) (O.held out.new) result }
+    // Whichever rows' lines waited.
+    ensures passes { (before : List (List PlainValue)) → waiting.old ≡ flat_map (line_of (map column_of printer.old)) before → Passes (line_of (map column_of printer.old)) (before ++ map row_of rows.now) (O.held out.old) (O.held out.new) waiting.new result }
+
     ensures same { printer.new ≡ printer.old }
     ensures write_cause { HasCause (IsErrOf result SendFault.Write) (O.faults out.old) (O.faults out.new) }
 {
@@ -48,7 +51,7 @@ fn print_row<O: Sink>(
     waiting: &mut Blob,
     out: &mut O,
 ) -> Result<(), SendFault>
-    ensures passes { Passes (line_of (map column_of printer.old) (map plain_value row.now)) waiting.old waiting.new (O.held out.old) (O.held out.new) result }
+    ensures passes { (before : List (List PlainValue)) → waiting.old ≡ flat_map (line_of (map column_of printer.old)) before → Passes (line_of (map column_of printer.old)) (before ++ row_of row.now ∷ []) (O.held out.old) (O.held out.new) waiting.new result }
     ensures same { printer.new ≡ printer.old }
     ensures write_cause { HasCause (IsErrOf result SendFault.Write) (O.faults out.old) (O.faults out.new) }
 {
@@ -58,18 +61,19 @@ fn print_row<O: Sink>(
     if waiting.len() < PIECE {
         return Ok(());
     }
-    flush(waiting, out)
+    match flush(waiting, out) {
+        Ok(()) => Ok(()),
+        Err(_) => Err(SendFault::Write),
+    }
 }
 
 // Writes what is waiting.
-fn flush<O: Sink>(waiting: &mut Blob, out: &mut O) -> Result<(), SendFault>
-    ensures passes { Passes [] waiting.old waiting.new (O.held out.old) (O.held out.new) result }
-    ensures ok { OnOk result (waiting.new ≡ []) }
-    ensures write_cause { HasCause (IsErrOf result SendFault.Write) (O.faults out.old) (O.faults out.new) }
+fn flush<O: Sink>(waiting: &mut Blob, out: &mut O) -> Result<(), Failed>
+    ensures ok { OnOk result ((O.held out.new ≡ and_then_bytes (O.held out.old) waiting.old) × (waiting.new ≡ [])) }
+    ensures err { OnErr result (GotPart waiting.old (O.held out.old) (O.held out.new)) }
+    ensures write_cause { HasCause (IsErr result) (O.faults out.old) (O.faults out.new) }
 {
-    if write_all(out, waiting.as_slice()).is_err() {
-        return Err(SendFault::Write);
-    }
+    write_all(out, waiting.as_slice())?;
     waiting.truncate(0);
     Ok(())
 }

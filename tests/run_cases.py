@@ -17,6 +17,10 @@ A case is a text file. Each line begins with a word that says what it is:
   to-full          its output goes to a device that is full
   has PATH HEX     a file that has to stand in the folder after it
   holds N          how many files stand in the folder after it
+  changed PATH AT HEX ..  writes the file that stands there again, as it was before any such line, with these
+                   bytes at their places
+  changes PATH AT HEX ..  does so with each of these bytes alone, one after another; each time `scan` has to
+                   end with status 15 and to name the file
   fronts PATH HEX  puts each front of these bytes but the whole as a file, one after another; each time
                    `scan` has to end with status 15 and to name the file
 
@@ -89,20 +93,32 @@ def hexes(text):
     return b"" if text == "-" else bytes.fromhex(text)
 
 
-def faults_of_fronts(program, folder, path, data):
-    """What goes wrong where a front of a file is scanned, as lines."""
+def pairs_of(words):
+    """Places and the bytes that are written there."""
+    return [(int(at), hexes(data)) for at, data in zip(words[::2], words[1::2], strict=True)]
+
+
+def with_changes(data, pairs):
+    data = bytearray(data)
+    for at, part in pairs:
+        data[at:at + len(part)] = part
+    return bytes(data)
+
+
+def faults_of_objects(program, folder, path, objects):
+    """What goes wrong where these bytes of a file are scanned in turn, each with its name, as lines."""
     lines = []
-    for length in range(len(data)):
-        put(folder, path, data[:length])
+    for name, data in objects:
+        put(folder, path, data)
         done = subprocess.run([program, folder, "scan"], stdout=subprocess.PIPE, stderr=subprocess.PIPE)
         if done.returncode != 15 or done.stdout or not done.stderr.startswith(f"outside: {path}: ".encode()):
-            lines.append(f"{length} bytes of {path}: status {done.returncode}, {done.stdout + done.stderr!r}")
+            lines.append(f"{name} of {path}: status {done.returncode}, {done.stdout + done.stderr!r}")
     return lines
 
 
 def faults_of(path, program, place):
     """What goes wrong in a case, as lines."""
-    lines, runs, folder, current = [], 0, os.path.join(place, "set"), None
+    lines, runs, folder, current, before = [], 0, os.path.join(place, "set"), None, {}
 
     def finish():
         nonlocal current
@@ -121,8 +137,23 @@ def faults_of(path, program, place):
             elif word == "fronts":
                 finish()
                 name, _, data = rest.partition(" ")
-                runs += len(hexes(data))
-                lines += faults_of_fronts(program, folder, name, hexes(data))
+                data = hexes(data)
+                runs += len(data)
+                lines += faults_of_objects(program, folder, name,
+                                           [(f"{n} bytes", data[:n]) for n in range(len(data))])
+            elif word in ("changed", "changes"):
+                finish()
+                name, *words = rest.split()
+                data = before.setdefault((folder, name), bytes_of(os.path.join(folder, name)))
+                if isinstance(data, str):
+                    lines.append(f"{os.path.basename(path)}: {name}: {data}")
+                elif word == "changed":
+                    put(folder, name, with_changes(data, pairs_of(words)))
+                else:
+                    runs += len(words) // 2
+                    lines += faults_of_objects(program, folder, name,
+                                               [(f"a change at {at}", with_changes(data, [(at, part)]))
+                                                for at, part in pairs_of(words)])
             elif word in ("file", "folder", "set"):
                 finish()
                 name, _, data = rest.partition(" ")
@@ -131,6 +162,7 @@ def faults_of(path, program, place):
                 elif word == "folder":
                     os.makedirs(os.path.join(folder, name), exist_ok=True)
                 else:
+                    before.pop((folder, name), None)
                     put(folder, name, hexes(data))
             elif word == "in":
                 current.input += rest.encode() + b"\n"

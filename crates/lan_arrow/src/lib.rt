@@ -10,11 +10,7 @@ mod gathering;
 mod laws;
 mod numbers;
 mod reading;
-#[cfg(test)]
-mod samples;
 mod tab;
-#[cfg(test)]
-mod tests;
 mod vecs;
 mod writing;
 

@@ -4,8 +4,6 @@
 mod numbers;
 mod output;
 mod padding;
-#[cfg(test)]
-mod tests;
 mod view;
 
 pub use numbers::{U16s, U32s, U64s};

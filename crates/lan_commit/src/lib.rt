@@ -5,15 +5,11 @@ mod appending;
 mod committing;
 mod creating;
 mod greatest;
-mod laws;
+pub mod laws;
 mod limits;
 mod objects;
 
 pub use appending::prepare_append;
 pub use committing::{CommitFault, put_change};
 pub use creating::{create, prepare_create};
-pub use laws::{
-    accepted_changes_stand, appends_meet_no_name, changes_are_not_seen_before,
-    first_manifests_meet_no_name,
-};
 pub use limits::Which;

@@ -11,10 +11,9 @@ use Rattle.lan_levels.specs.declared.slot.State.TheVariants.{Here}
 use Rattle.lan_model.specs.Leaves.{PlainLeaf, leaves_from}
 use Rattle.lan_model.specs.Plain.{PlainType, primitive, vector, PlainField, field, PlainValue, null, bits, raw, items, group, fields_from, values_from}
 use Rattle.lan_model.specs.declared.tree.Layer.TheVariants as layer
-use Rattle.lan_zip.specs.Form.{PlainForm, form_for, value_form}
-use Rattle.lan_zip.specs.Spelled.{Valued, value_part, cut, level, slot, kept, with_value, first_slot, Part, spelled}
-use Rattle.lan_zip.specs.Written.{kind_of}
-use Rattle.lan_zip.proofs.Walks.{spelled_none, opened, put_first}
+use Rattle.lan_levels.specs.ZipForm.{PlainForm, form_for, value_form, kind_of}
+use Rattle.lan_levels.specs.ZipSlots.{Valued, value_part, cut, level, slot, kept, with_value, first_slot, Part, spelled}
+use Rattle.lan_levels.proofs.ZipWalks.{spelled_none, opened, put_first}
 use Rattle.lan_file.specs.Layouts.{full_zip}
 use Rattle.lan_file.specs.Pages.{PagesOf}
 use Rattle.lan_file.specs.Parts.{part}

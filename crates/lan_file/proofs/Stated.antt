@@ -5,17 +5,14 @@ use Rattle.std.proofs.lemmas.Nat.{le-div}
 use Rattle.std.specs.Prelude.{Option, Some, None, Result, Ok}
 use Rattle.std.proofs.lemmas.List.{append-nil, append_cancel_left}
 use Rattle.lan_bytes.specs.Placed.{Placed}
-use Rattle.lan_wire.specs.Faults.{Stands}
+use Rattle.lan_wire.specs.Faults.{BreaksItem}
 use Rattle.lan_wire.specs.Readers.{num_of}
 use Rattle.lan_wire.specs.Spelling.{num_field}
 use Rattle.lan_wire.specs.Spells.{Spells, Begins, numbered}
 use Rattle.lan_wire.specs.declared.item.Item.{Item}
 use Rattle.lan_wire.specs.declared.item.WireFault.{WireFault}
 use Rattle.lan_wire.specs.declared.item.WireKind.{WireKind}
-use Rattle.lan_wire.proofs.FaultsHold.{no_item}
-use Rattle.lan_wire.proofs.MessageLaws.{front_not_nil}
-use Rattle.lan_wire.proofs.SpellingLaws.{same_read}
-use Rattle.lan_wire.proofs.WrittenLaws.{number_spelled}
+use Rattle.lan_wire.proofs.LawTerms.{no_item, front_not_nil, same_read, number_spelled}
 use Rattle.lan_model.specs.Plain.{PlainField}
 use Rattle.lan_file.specs.Stage.{States}
 use Rattle.lan_file.specs.Stating.{IsLength, LengthOf, OnlyIf}
@@ -35,7 +32,7 @@ pub some_length : (n : ℕ) → IsLength [] n → ⊥
 some_length n l = front_not_nil [] [] (numbered 0 2 n) (length_spelled [] n l) refl
 
 -- where a fault stands no length does
-pub no_length : (rest : List ℕ) (kind : WireKind) (n : ℕ) → Stands kind rest → IsLength rest n → ⊥
+pub no_length : (rest : List ℕ) (kind : WireKind) (n : ℕ) → BreaksItem kind rest → IsLength rest n → ⊥
 no_length rest kind n stands l = no_item rest rest [] kind (numbered 0 2 n) stands (length_spelled rest n l) (sym (append-nil rest))
 
 -- the item that stands at the front of a length is the length's

@@ -9,14 +9,13 @@ use Rattle.lan_wire.specs.declared.item.Body.TheVariants.{Num, Eight, Four, Part
 use Rattle.lan_wire.specs.declared.item.Item.{Item}
 use Rattle.lan_wire.specs.Spelling.{num_item, num_field}
 use Rattle.lan_wire.specs.Spells.{Spells, numbered}
-use Rattle.lan_wire.proofs.SpellingLaws.{one_item}
-use Rattle.lan_wire.proofs.WrittenLaws.{number_spelled}
+use Rattle.lan_wire.proofs.LawTerms.{one_item, number_spelled}
 use Rattle.lan_model.specs.Plain.{PlainType, PlainField, PlainValue}
 use Rattle.lan_model.specs.Table.{FitsRow}
 use Rattle.lan_file.specs.declared.fault.FileReason.{FileReason}
 use Rattle.lan_file.specs.declared.fault.FileReason.TheVariants.{Missing, Size, Short, TooShort, Magic, Version, Region, Descriptor, Plain, Rows}
 use Rattle.lan_schema.specs.Logical.{IsFixedType}
-use Rattle.lan_zip.specs.Spelled.{Valued}
+use Rattle.lan_levels.specs.ZipSlots.{Valued}
 use Rattle.lan_file.specs.Stage.{IsRequiredFixed, States}
 use Rattle.lan_file.specs.Stating.{StandAll, FitsOne}
 use Rattle.lan_file.specs.Texts.{schema_text, descriptor_text}

@@ -13,11 +13,11 @@ use Rattle.lan_model.specs.declared.tree.Primitive.TheVariants as kind
 use Rattle.lan_model.specs.Fits.{width}
 use Rattle.lan_model.specs.Plain.{PlainType, primitive, vector, PlainValue, bits, raw}
 use Rattle.lan_schema.specs.Logical.{IsFixedType}
-use Rattle.lan_zip.specs.declared.form.ValueForm.{ValueForm}
-use Rattle.lan_zip.specs.declared.form.ValueForm.TheVariants as value
-use Rattle.lan_zip.specs.Form.{value_form}
-use Rattle.lan_zip.specs.Spelled.{Valued, sized_part, value_part}
-use Rattle.lan_zip.specs.Written.{kind_of, FitsForm, value_bytes}
+use Rattle.lan_levels.specs.declared.shape.ValueForm.{ValueForm}
+use Rattle.lan_levels.specs.declared.shape.ValueForm.TheVariants as value
+use Rattle.lan_levels.specs.ZipForm.{value_form, kind_of}
+use Rattle.lan_levels.specs.ZipSlots.{Valued, sized_part, value_part}
+use Rattle.lan_levels.specs.ZipWritten.{FitsForm, value_bytes}
 use Rattle.lan_file.specs.Stating.{StandsFirst}
 use Rattle.lan_file.specs.Texts.{row_bytes}
 use Rattle.lan_file.specs.Widths.{type_size}

@@ -3,8 +3,8 @@ use Rattle.std.specs.Prelude.{◌≡◌, ℕ, ◌+◌, List, [], ◌∷◌, ◌+
 use Rattle.lan_levels.specs.PlainSlots.{PlainSlot}
 use Rattle.lan_levels.specs.declared.shape.ValueKind.{ValueKind}
 use Rattle.lan_model.specs.Leaves.{PlainLeaf}
-use Rattle.lan_zip.specs.Form.{PlainForm, form_for, value_form}
-use Rattle.lan_zip.specs.Spelled.{IsZip}
+use Rattle.lan_levels.specs.ZipForm.{PlainForm, form_for, value_form}
+use Rattle.lan_levels.specs.ZipSlots.{IsZip}
 use Rattle.lan_file.specs.Layouts.{Layout, constant, mini_block, full_zip, Page}
 use Rattle.lan_file.specs.Stage.{ConstantOf, MiniBlockOf, PlacesOf}
 

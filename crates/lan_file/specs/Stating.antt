@@ -6,9 +6,8 @@ use Rattle.lan_wire.specs.Spelling.{num_field}
 use Rattle.lan_levels.specs.SlotsOf.{piece_of}
 use Rattle.lan_levels.specs.Taken.{FitsItem}
 use Rattle.lan_model.specs.Plain.{PlainType, PlainField, PlainValue}
-use Rattle.lan_zip.specs.Form.{value_form}
-use Rattle.lan_zip.specs.Spelled.{value_part}
-use Rattle.lan_zip.specs.Written.{kind_of}
+use Rattle.lan_levels.specs.ZipForm.{value_form, kind_of}
+use Rattle.lan_levels.specs.ZipSlots.{value_part}
 use Rattle.lan_file.specs.Stage.{States}
 use Rattle.lan_file.specs.Texts.{column_text}
 use Rattle.lan_file.specs.Widths.{type_size}

@@ -4,8 +4,8 @@ use Rattle.lan_wire.specs.Spelling.{num_field, part_item, packed_field}
 use Rattle.lan_levels.specs.SlotsOf.{piece_of}
 use Rattle.lan_model.specs.Plain.{PlainType, PlainField, field, PlainValue, fields_from}
 use Rattle.lan_schema.specs.FieldTree.{all_messages}
-use Rattle.lan_zip.specs.Form.{value_form}
-use Rattle.lan_zip.specs.Written.{kind_of, value_bytes}
+use Rattle.lan_levels.specs.ZipForm.{value_form, kind_of}
+use Rattle.lan_levels.specs.ZipWritten.{value_bytes}
 use Rattle.lan_file.specs.Widths.{column_bits, column_size}
 
 -- the bytes of a row of one value of this type

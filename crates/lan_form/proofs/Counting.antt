@@ -13,7 +13,7 @@ use Rattle.lan_form.proofs.Lists.{next_of}
 use Rattle.lan_model.specs.declared.tree.Field.{Field}
 use Rattle.lan_model.specs.Plain.{PlainType, primitive, vector, text, bytes, list, struct, PlainField, field, one_field, plain_field, plain_fields, fields_from}
 use Rattle.lan_schema.specs.Logical.{leaf_type, IsLeafType}
-use Rattle.lan_schema.proofs.LeafNames.{named_once}
+use Rattle.lan_schema.proofs.LawTerms.{named_once}
 use Rattle.lan_form.specs.Numbers.{fields_in, all_in, CountsFrom, InsideFrom, CountFrom, FieldCounted, TypeCounted, AllCounted}
 
 leaf_counted_of : (t : PlainType ℕ) (n : ℕ) → IsLeafType t → TypeCounted n t n

@@ -12,7 +12,7 @@ use Rattle.serde_json.specs.Data.{Data, null, boolean, number, string, array, ob
 use Rattle.lan_model.specs.Plain.{PlainType, primitive, vector, text, bytes, list, struct, field, fields_from, type_unnumbered}
 use Rattle.lan_model.specs.Table.{Column, name_of, names_of, AreNamed, IsField, AreFields, AreColumns, all_depths, HasNamedItems, HaveNamedItems}
 use Rattle.lan_schema.specs.Logical.{leaf_type, IsLeafType}
-use Rattle.lan_schema.proofs.LeafNames.{named_once}
+use Rattle.lan_schema.proofs.LawTerms.{named_once}
 use Rattle.lan_form.specs.declared.faults.FormFault.TheVariants as fault
 use Rattle.lan_form.specs.Judged.{Judged, on_good, and_then}
 use Rattle.lan_form.specs.Shape.{Label, label_of}

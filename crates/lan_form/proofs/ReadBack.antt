@@ -15,7 +15,7 @@ use Rattle.lan_model.specs.declared.tree.Primitive.TheVariants as p
 use Rattle.lan_model.specs.Plain.{PlainType, primitive, vector, text, bytes, list, struct, PlainField, field, PlainFields, no_fields, one_field, fields_from, unnumbered, type_unnumbered, all_unnumbered}
 use Rattle.lan_model.specs.Table.{Column, name_of, names_of, AreNamed, IsField, AreFields, AreColumns, depths_of, all_depths, HasNamedItems, HaveNamedItems}
 use Rattle.lan_schema.specs.Logical.{leaf_type, IsLeafType}
-use Rattle.lan_schema.proofs.LeafNames.{names_leaf}
+use Rattle.lan_schema.proofs.LawTerms.{names_leaf}
 use Rattle.lan_form.specs.declared.faults.FormFault.TheVariants as fault
 use Rattle.lan_form.specs.Judged.{Judged, on_good, and_then, some_or}
 use Rattle.lan_form.specs.Names.{first_twice, unless_twice, distinct}

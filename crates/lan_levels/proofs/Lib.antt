@@ -28,3 +28,6 @@ pub mod StateNumbers
 pub mod KeptSlots
 pub mod LayerCodes
 pub mod Chosen
+pub mod ZipWalks
+pub mod ZipFirst
+pub mod ZipSpelling

@@ -7,7 +7,7 @@ mod buffer;
 mod codes;
 mod cursor;
 mod join;
-mod laws;
+pub mod laws;
 mod leaf_value;
 mod shape;
 mod shredding;
@@ -18,8 +18,7 @@ pub use assembling::assemble;
 pub use buffer::SlotBuf;
 pub use codes::{Codes, codes_fit, codes_of, greatest, is_bare, number_of, state_of};
 pub use join::Join;
-pub use laws::slots_determine;
-pub use shape::{Shape, ValueKind};
+pub use shape::{Shape, ValueForm, ValueKind};
 pub use shredding::shred;
 pub use slot::{Piece, Runs, Slot, SlotRun, Slots, State};
 

@@ -12,6 +12,17 @@ pub enum ValueKind {
     Constant(Blob),
 }
 
+/// How a value stands in a slot of a full-zip page.
+#[derive(Clone, Copy, Debug)]
+pub enum ValueForm {
+    /// One byte, 0 for false and any other for true.
+    Bool,
+    /// So many bytes.
+    Fixed(u64),
+    /// A length of four bytes, low byte first, and so many bytes.
+    Variable,
+}
+
 /// What a page's bytes are read by: the layer codes, the leaf, and how values are stored.
 #[derive(Clone, Copy)]
 pub struct Shape<'a> {

@@ -5,9 +5,9 @@ use Rattle.std.proofs.lemmas.List.{append_cancel_left, append_cancel_right}
 use Rattle.std.proofs.lemmas.Option.{same_Some}
 use Rattle.lan_model.specs.Plain.{PlainType, PlainField, field, primitive, vector, no_fields, one_field}
 use Rattle.lan_wire.specs.Spelling.{num_field, part_field, part_item, two_complement}
-use Rattle.lan_schema.specs.FieldTree.{kind_of, logical_of, inside_messages, all_messages}
+use Rattle.lan_schema.specs.FieldTree.{type_number, logical_of, inside_messages, all_messages}
 use Rattle.lan_schema.specs.Logical.{leaf_type, IsLeafType, IsFixedType}
-use Rattle.lan_schema.proofs.LeafNames.{names_leaf}
+use Rattle.lan_schema.proofs.LawTerms.{names_leaf}
 use Rattle.lan_manifest.specs.Columns.{IsColumn, column_message}
 use Rattle.lan_manifest.proofs.Spellings.{part_splits, field_splits, last_part}
 
@@ -16,7 +16,7 @@ leaf_is (primitive q) is = tt
 leaf_is (vector q n) is = is
 leaf_is ty is = absurd is
 
-kind_is : (ty : PlainType ℕ) → IsFixedType ty → kind_of ty ≡ 2
+kind_is : (ty : PlainType ℕ) → IsFixedType ty → type_number ty ≡ 2
 kind_is (primitive q) is = refl
 kind_is (vector q n) is = refl
 kind_is ty is = absurd is

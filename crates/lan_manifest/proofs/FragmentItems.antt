@@ -10,9 +10,7 @@ use Rattle.lan_bytes.specs.Placed.{Placed}
 use Rattle.lan_wire.specs.declared.item.Item.{Item}
 use Rattle.lan_wire.specs.Spelling.{varint, packed_field, num_field, num_item, part_item, key}
 use Rattle.lan_wire.specs.Spells.{Items, numbered, part_placed}
-use Rattle.lan_wire.proofs.MessageLaws.{items_append}
-use Rattle.lan_wire.proofs.Varints.{length-varint}
-use Rattle.lan_wire.proofs.WrittenLaws.{text_again}
+use Rattle.lan_wire.proofs.LawTerms.{items_append, length-varint, text_again}
 use Rattle.lan_manifest.specs.declared.manifest.Fragment.{Fragment}
 use Rattle.lan_manifest.specs.Manifests.{file_text, fragment_text}
 use Rattle.lan_manifest.specs.Readable.{one_file, one_fragment, and_then, fragment_parts, IsReadable}

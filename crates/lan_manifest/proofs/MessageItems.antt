@@ -8,8 +8,9 @@ use Rattle.lan_model.specs.Plain.{PlainField, fields_from}
 use Rattle.lan_wire.specs.declared.item.Item.{Item}
 use Rattle.lan_wire.specs.Spelling.{num_field, part_item}
 use Rattle.lan_wire.specs.Spells.{Items, numbered, part_placed}
-use Rattle.lan_wire.proofs.MessageLaws.{items_append}
-use Rattle.lan_schema.specs.FieldMessage.{SaysField, flag}
+use Rattle.lan_wire.proofs.LawTerms.{items_append}
+use Rattle.lan_schema.specs.FieldMessage.{SaysField}
+use Rattle.lan_wire.specs.Written.{flag_number}
 use Rattle.lan_schema.specs.FieldTree.{all_messages}
 use Rattle.lan_manifest.specs.declared.manifest.Fragment.{Fragment}
 use Rattle.lan_manifest.specs.Columns.{IsColumn, column_flat, column_message}
@@ -94,7 +95,7 @@ unfolding manifest_text
 message_is m f fields is each =
     let columns : all_messages 1 (negsuc 0) (fields_from m.fields) ≡ part_item 1 (column_message f) = ap (λ (l : List (PlainField ℕ)). all_messages 1 (negsuc 0) (fields_from l)) fields ∙ column_text f is in
     let flags : has_deletions m ≡ false = none_deleted m.fragments each in
-    λ i. columns i ++ (texts_of m.fragments ++ (num_field 3 m.version ++ (num_field 9 (flag (flags i)) ++ (num_field 10 (flag (flags i)) ++ greatest_text m.greatest))))
+    λ i. columns i ++ (texts_of m.fragments ++ (num_field 3 m.version ++ (num_field 9 (flag_number (flags i)) ++ (num_field 10 (flag_number (flags i)) ++ greatest_text m.greatest))))
 
 -- what the message gives, wherever it lies
 pub record MessageGives (at : ℕ) (m : PlainManifest) : Type 0 where

@@ -6,7 +6,7 @@ use Rattle.std.specs.List.{list_any}
 use Rattle.std.specs.Int.{to_le_bytes, w16, w32, w64}
 use Rattle.lan_wire.specs.Spelling.{varint, key, num_field, num_item, part_item, packed_field}
 use Rattle.lan_model.specs.Plain.{PlainField, fields_from}
-use Rattle.lan_schema.specs.FieldMessage.{flag}
+use Rattle.lan_wire.specs.Written.{flag_number}
 use Rattle.lan_schema.specs.FieldTree.{all_messages}
 use Rattle.lan_manifest.specs.Columns.{IsColumn, column_message}
 use Rattle.lan_manifest.specs.declared.manifest.Deletion.{Deletion}
@@ -127,7 +127,7 @@ same_greatest None (Some m) is = absurd (item_some 11 m (sym is))
 same_greatest (Some n) None is = absurd (item_some 11 n is)
 
 abbrev tail_at : Bool → Option ℕ → List ℕ
-tail_at deletions greatest = num_field 9 (flag deletions) ++ (num_field 10 (flag deletions) ++ greatest_text greatest)
+tail_at deletions greatest = num_field 9 (flag_number deletions) ++ (num_field 10 (flag_number deletions) ++ greatest_text greatest)
 
 -- the text of a manifest that the stage reads
 text_of : (m : PlainManifest) (f : PlainField ℕ) (ps : List Plain) (w : ℕ) → IsColumn f → m.fields ≡ f ∷ [] → fragments_of ps ≡ m.fragments → m.version ≡ suc w
@@ -142,7 +142,7 @@ same_tail : (m n : PlainManifest) → m.fragments ≡ n.fragments → tail_at (h
 same_tail m n fragments is =
     let flags : has_deletions n ≡ has_deletions m = ap (λ (l : List Fragment). list_any (λ f. is_some f.deletion) l) (sym fragments) in
     let both : tail_at (has_deletions n) m.greatest ≡ tail_at (has_deletions n) n.greatest = ap (λ b. tail_at b m.greatest) flags ∙ is in
-    same_greatest m.greatest n.greatest (append_cancel_left (num_field 10 (flag (has_deletions n))) _ _ (append_cancel_left (num_field 9 (flag (has_deletions n))) _ _ both))
+    same_greatest m.greatest n.greatest (append_cancel_left (num_field 10 (flag_number (has_deletions n))) _ _ (append_cancel_left (num_field 9 (flag_number (has_deletions n))) _ _ both))
 
 -- bytes stand for one manifest of a version
 pub one_manifest : (bytes : List ℕ) (version : ℕ) (m n : PlainManifest) → 1 ≤ version → ManifestOf bytes version m → ManifestOf bytes version n → m ≡ n

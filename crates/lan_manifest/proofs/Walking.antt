@@ -9,8 +9,7 @@ use Rattle.lan_wire.specs.declared.item.WireFault.{WireFault}
 use Rattle.lan_wire.specs.Spells.{Items, Begins}
 use Rattle.lan_manifest.specs.declared.reading.ManifestFault.{ManifestFault}
 use Rattle.lan_manifest.specs.Walks.{first_of}
-use Rattle.lan_wire.proofs.SpellingLaws.{same_read}
-use Rattle.lan_wire.proofs.MessageLaws.{front_not_nil}
+use Rattle.lan_wire.proofs.LawTerms.{same_read, front_not_nil}
 
 -- what follows the item that stands at the front
 pub record Follows (item : Item) (after : Placed) (items : List Item) : Type 0 where

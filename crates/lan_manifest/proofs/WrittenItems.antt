@@ -4,8 +4,7 @@ use Rattle.std.proofs.lemmas.List.{append-nil}
 use Rattle.lan_wire.specs.declared.item.Item.{Item}
 use Rattle.lan_wire.specs.Spelling.{varint, key, num_field, num_item, part_field, part_item}
 use Rattle.lan_wire.specs.Spells.{Items, numbered, part_placed}
-use Rattle.lan_wire.proofs.Varints.{length-varint}
-use Rattle.lan_wire.proofs.WrittenLaws.{number_spelled, part_spelled}
+use Rattle.lan_wire.proofs.LawTerms.{length-varint, number_spelled, part_spelled}
 
 -- the item of a number that is left out where it is zero
 abbrev pub number_items : ℕ → ℕ → ℕ → List Item

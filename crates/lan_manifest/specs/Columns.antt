@@ -3,7 +3,7 @@ use Rattle.std.specs.Prelude.{◌≡◌, ℕ, ◌<◌, false, IsTrue, List, leng
 use Rattle.std.specs.Str.{is_utf8}
 use Rattle.lan_model.specs.Plain.{PlainField, field}
 use Rattle.lan_schema.specs.FieldMessage.{Flat, field_text}
-use Rattle.lan_schema.specs.FieldTree.{kind_of, logical_of, signed}
+use Rattle.lan_schema.specs.FieldTree.{type_number, logical_of, signed}
 use Rattle.lan_schema.specs.Logical.{IsFixedType}
 
 -- a column of fixed width that is never null, numbered 0, and its name is a text
@@ -17,4 +17,4 @@ column_flat (field id name nullable ty) = record { name = name; id = signed id; 
 
 -- that message
 abbrev pub column_message : PlainField ℕ → List ℕ
-column_message (field id name nullable ty) = field_text (kind_of ty) (column_flat (field id name nullable ty))
+column_message (field id name nullable ty) = field_text (type_number ty) (column_flat (field id name nullable ty))

@@ -4,7 +4,7 @@ use Rattle.std.specs.List.{list_any}
 use Rattle.std.specs.Int.{to_le_bytes, w16, w32, w64}
 use Rattle.lan_wire.specs.Spelling.{num_field, part_field, num_item, part_item, packed_field, two_complement}
 use Rattle.lan_model.specs.Plain.{PlainField, plain_field, fields_from}
-use Rattle.lan_schema.specs.FieldMessage.{flag}
+use Rattle.lan_wire.specs.Written.{flag_number}
 use Rattle.lan_schema.specs.FieldTree.{all_messages}
 use Rattle.lan_store.specs.declared.name.Object.{Object}
 use Rattle.lan_manifest.specs.Versions.{manifest_name}
@@ -49,7 +49,7 @@ has_deletions m = list_any (λ f. is_some f.deletion) m.fragments
 unfoldable pub manifest_text : PlainManifest → List ℕ
 manifest_text m =
     all_messages 1 (negsuc 0) (fields_from m.fields) ++ (flat_map (λ f. part_item 2 (fragment_text f)) m.fragments
-    ++ (num_field 3 m.version ++ (num_field 9 (flag (has_deletions m)) ++ (num_field 10 (flag (has_deletions m)) ++ greatest_text m.greatest))))
+    ++ (num_field 3 m.version ++ (num_field 9 (flag_number (has_deletions m)) ++ (num_field 10 (flag_number (has_deletions m)) ++ greatest_text m.greatest))))
 
 -- a message in its frame: its length, the message, its place, the format's version and its mark
 unfoldable pub framed : List ℕ → List ℕ

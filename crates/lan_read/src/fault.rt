@@ -1,5 +1,6 @@
 ghost use Rattle.std.specs.Prelude.{◌≡◌};
 ghost use Rattle.lan_read.specs.declared.fault.ReadFault.TheVariants.{Memory};
+ghost use Rattle.lan_read.specs.declared.fault.FragmentFault.TheVariants as fragment;
 
 use lan_file::FileReason;
 use lan_store::Name;
@@ -43,5 +44,23 @@ impl From<AllocError> for ReadFault {
 
     fn from(_: AllocError) -> Self {
         ReadFault::Memory
+    }
+}
+
+/// Why the rows of a fragment aren't read.
+#[derive(Debug, Drop)]
+pub enum FragmentFault {
+    /// A data file isn't read: why, and at which byte, counted from its front.
+    Outside(Name, FileReason, u64),
+    /// The store failed at this name.
+    Store(Name),
+    Memory,
+}
+
+impl From<AllocError> for FragmentFault {
+    ghost from_gives = { λ _ e. e ≡ fragment.Memory };
+
+    fn from(_: AllocError) -> Self {
+        FragmentFault::Memory
     }
 }

@@ -1,3 +1,4 @@
 pub mod Fragments
+pub mod Fronts
 pub mod Lines
 pub mod Tables

@@ -1,102 +1,136 @@
--- Lines that go to a sink one after another, by way of bytes that wait.
-use Rattle.std.proofs.Common.{◌≡◌, refl, sym, ◌∙◌, ap, subst, ℕ, ◌+◌, ◌<◌, ◌≤◌, List, [], ◌∷◌, ◌++◌, length, get_or, take, drop, map, arith, append_assoc, length-append, length-take}
-use Rattle.std.specs.Prelude.{Option, Some, None, Err, flat_map}
+-- The lines of rows that go to a sink one after another, by way of lines that wait.
+use Rattle.std.proofs.Common.{◌≡◌, refl, sym, ◌∙◌, ap, subst, ℕ, zero, suc, ◌+◌, ◌<◌, ◌≤◌, List, [], ◌∷◌, ◌++◌, length, get_or, take, drop, map, arith, append_assoc, length-append}
+use Rattle.std.specs.Prelude.{Option, Some, None, Result, Ok, Err, flat_map}
 use Rattle.std.proofs.lemmas.Grind.{flat_map-append}
-use Rattle.std.proofs.lemmas.List.{append-nil, map-append, map_more, take-append-le, take-append-drop}
-use Rattle.std.proofs.Math.Seq.{take-append_seam}
+use Rattle.std.proofs.lemmas.List.{append-nil, map-append, map_more, take-append-drop, take_all}
 use Rattle.lan_model.specs.Plain.{PlainValue}
 use Rattle.lan_store.specs.Streams.{and_then_bytes}
 use Rattle.lan_store.proofs.Told.{and_then_bytes-twice}
-use Rattle.lan_scan.specs.Sending.{GotPart, GotFirst, Sends, Passes}
+use Rattle.lan_scan.specs.Sending.{GotPart, Sends, Waits, Passes}
 use Rattle.lan_scan.specs.declared.sending.SendFault.{SendFault}
 use Rattle.lan_scan.specs.declared.sending.SendFault.TheVariants.{Write, Memory}
+
+abbrev pub Row : Type 0
+Row = List PlainValue
+
+-- ---- fronts of lists
+
+take_past : {X : Type 0} (xs ys : List X) (k : ℕ) → take (length xs + k) (xs ++ ys) ≡ xs ++ take k ys
+take_past [] ys k = let same : 0 + k ≡ k = omega arith in ap (λ n. take n ys) same
+take_past (x ∷ xs) ys k =
+    let same : length (x ∷ xs) + k ≡ suc (length xs + k) = omega arith in
+    ap (λ n. take n (x ∷ (xs ++ ys))) same ∙ ap (λ l. x ∷ l) (take_past xs ys k)
+
+take_within : {X : Type 0} (xs ys : List X) (k : ℕ) → k ≤ length xs → take k (xs ++ ys) ≡ take k xs
+take_within [] [] zero within = refl
+take_within [] (y ∷ ys) zero within = refl
+take_within [] ys (suc k) within = absurd (omega (arith, within))
+take_within (x ∷ xs) ys zero within = refl
+take_within (x ∷ xs) ys (suc k) within = ap (λ l. x ∷ l) (take_within xs ys k (omega (arith, within)))
+
+-- ---- what a sink got
 
 -- nothing more leaves what was told
 pub and_then_bytes-nil : (told : Option (List ℕ)) → told ≡ and_then_bytes told []
 and_then_bytes-nil None = refl
 and_then_bytes-nil (Some bytes) = ap (λ l. Some l) (sym (append-nil bytes))
 
--- what two sends grew
-pub grew_twice : (line : List PlainValue → List ℕ) (a b : List (List PlainValue)) (held mid holds : Option (List ℕ)) → mid ≡ and_then_bytes held (flat_map line a) → holds ≡ and_then_bytes mid (flat_map line b) → holds ≡ and_then_bytes held (flat_map line (a ++ b))
-grew_twice line a b held mid holds first second = second ∙ ap (λ o. and_then_bytes o (flat_map line b)) first ∙ and_then_bytes-twice held (flat_map line a) (flat_map line b) ∙ ap (and_then_bytes held) (sym (flat_map-append line a b))
-
--- what was sent, and then what was sent of the rest and more
-joined : {X : Type 0} (a b later more rest rows : List X) → a ++ later ≡ rows → b ++ rest ≡ later ++ more → (a ++ b) ++ rest ≡ rows ++ more
-joined a b later more rest rows first second = append_assoc a b rest ∙ ap (λ l. a ++ l) second ∙ sym (append_assoc a later more) ∙ ap (λ l. l ++ more) first
-
--- the lines of no row
-pub sends_none : (line : List PlainValue → List ℕ) (held : Option (List ℕ)) (waits : List ℕ) → waits ≡ [] → Sends line [] held held waits
-sends_none line held waits none = record { sent = []; later = []; all = refl; grew = and_then_bytes-nil held; wait = none }
-
--- none was sent
-pub sends_later : (line : List PlainValue → List ℕ) (rows : List (List PlainValue)) (held : Option (List ℕ)) (waits : List ℕ) → waits ≡ flat_map line rows → Sends line rows held held waits
-sends_later line rows held waits is = record { sent = []; later = rows; all = refl; grew = and_then_bytes-nil held; wait = is }
-
-pub first_none : (line : List PlainValue → List ℕ) (rows : List (List PlainValue)) (held : Option (List ℕ)) → GotFirst line rows held held
-first_none line rows held = record { sent = []; later = rows; all = refl; grew = and_then_bytes-nil held }
-
--- all were sent
-pub sends_all : (line : List PlainValue → List ℕ) (rows : List (List PlainValue)) (held holds : Option (List ℕ)) (text waits : List ℕ) → holds ≡ and_then_bytes held text → text ≡ flat_map line rows → waits ≡ [] → Sends line rows held holds waits
-sends_all line rows held holds text waits grew is none = record { sent = rows; later = []; all = append-nil rows; grew = grew ∙ ap (and_then_bytes held) is; wait = none }
-
--- the lines of some rows and then of others
-pub sends_then : (line : List PlainValue → List ℕ) (rows more : List (List PlainValue)) (held mid holds : Option (List ℕ)) (middle waits : List ℕ) (first : Sends line rows held mid middle) → Sends line (first.later ++ more) mid holds waits → Sends line (rows ++ more) held holds waits
-sends_then line rows more held mid holds middle waits first second = record {
-  sent = first.sent ++ second.sent;
-  later = second.later;
-  all = joined first.sent second.sent first.later more second.later rows first.all second.all;
-  grew = grew_twice line first.sent second.sent held mid holds first.grew second.grew;
-  wait = second.wait;
-}
-
-pub first_then : (line : List PlainValue → List ℕ) (rows more : List (List PlainValue)) (held mid holds : Option (List ℕ)) (middle : List ℕ) (first : Sends line rows held mid middle) → GotFirst line (first.later ++ more) mid holds → GotFirst line (rows ++ more) held holds
-first_then line rows more held mid holds middle first second = record {
-  sent = first.sent ++ second.sent;
-  later = second.later;
-  all = joined first.sent second.sent first.later more second.later rows first.all second.all;
-  grew = grew_twice line first.sent second.sent held mid holds first.grew second.grew;
-}
-
--- a front of what is behind a text
-part_behind : (front text : List ℕ) (held mid holds : Option (List ℕ)) → mid ≡ and_then_bytes held front → GotPart text mid holds → GotPart (front ++ text) held holds
-part_behind front text held mid holds first (k, within, grew) = (
-  length (front ++ take k text),
-  omega (arith, within, length-append front text, length-append front (take k text), length-take k text),
-  grew ∙ ap (λ o. and_then_bytes o (take k text)) first ∙ and_then_bytes-twice held front (take k text)
-      ∙ ap (and_then_bytes held) (sym (take-append_seam (front ++ take k text) (drop k text)) ∙ ap (take (length (front ++ take k text))) (append_assoc front (take k text) (drop k text) ∙ ap (λ l. front ++ l) (take-append-drop k text))),
+-- behind some bytes a front of a text
+pub got_behind : (a b : List ℕ) (held mid holds : Option (List ℕ)) → mid ≡ and_then_bytes held a → GotPart b mid holds → GotPart (a ++ b) held holds
+got_behind a b held mid holds is (k, within, grew) = (
+  length a + k,
+  omega (arith, within, length-append a b),
+  grew ∙ ap (λ o. and_then_bytes o (take k b)) is ∙ and_then_bytes-twice held a (take k b) ∙ ap (and_then_bytes held) (sym (take_past a b k)),
 )
 
-pub part_then : (line : List PlainValue → List ℕ) (rows more : List (List PlainValue)) (held mid holds : Option (List ℕ)) (middle : List ℕ) (first : Sends line rows held mid middle) → GotPart (flat_map line (first.later ++ more)) mid holds → GotPart (flat_map line (rows ++ more)) held holds
-part_then line rows more held mid holds middle first part =
-    let whole : flat_map line first.sent ++ flat_map line (first.later ++ more) ≡ flat_map line (rows ++ more) =
-    sym (flat_map-append line first.sent (first.later ++ more)) ∙ ap (flat_map line) (sym (append_assoc first.sent first.later more) ∙ ap (λ l. l ++ more) first.all)
-    in
-    subst (λ l. GotPart l held holds) whole (part_behind (flat_map line first.sent) (flat_map line (first.later ++ more)) held mid holds first.grew part)
+-- a front of a text is one of a longer text
+pub got_more : (a b : List ℕ) (held holds : Option (List ℕ)) → GotPart a held holds → GotPart (a ++ b) held holds
+got_more a b held holds (k, within, grew) = (k, omega (arith, within, length-append a b), grew ∙ ap (and_then_bytes held) (sym (take_within a b k within)))
 
--- a front of a text is a front of a longer one
-pub part_front : (text more : List ℕ) (held holds : Option (List ℕ)) → GotPart text held holds → GotPart (text ++ more) held holds
-part_front text more held holds (k, within, grew) = (k, omega (arith, within, length-append text more), grew ∙ ap (and_then_bytes held) (sym (take-append-le k text more within)))
+-- ---- rows one after another
 
-pub first_front : (line : List PlainValue → List ℕ) (rows more : List (List PlainValue)) (held holds : Option (List ℕ)) → GotFirst line rows held holds → GotFirst line (rows ++ more) held holds
-first_front line rows more held holds got = record { sent = got.sent; later = got.later ++ more; all = sym (append_assoc got.sent got.later more) ∙ ap (λ l. l ++ more) got.all; grew = got.grew }
+-- the rows wait behind the others
+pub sends_later : (line : Row → List ℕ) (rows pending : List Row) (held : Option (List ℕ)) → Sends line rows pending held held (pending ++ rows)
+sends_later line rows pending held = record { sent = []; grew = and_then_bytes-nil held; whole = refl }
 
--- the line of one row more
-pub lines_behind : {X : Type 0} (line : X → List ℕ) (before : List X) (x : X) (waiting middle : List ℕ) → waiting ≡ flat_map line before → middle ≡ waiting ++ line x → middle ≡ flat_map line (before ++ x ∷ [])
-lines_behind line before x waiting middle is more = more ∙ ap (λ l. l ++ line x) is ∙ ap (λ l. flat_map line before ++ l) (sym (append-nil (line x))) ∙ sym (flat_map-append line before (x ∷ []))
+-- none more
+pub waits_none : (line : Row → List ℕ) (pending : List Row) (held : Option (List ℕ)) (waiting : List ℕ) → waiting ≡ flat_map line pending → Waits line [] pending held held waiting
+waits_none line pending held waiting is = record { rest = pending; sends = record { sent = []; grew = and_then_bytes-nil held; whole = sym (append-nil pending) }; lines = is }
 
--- one row more of those of a list
-pub row_more : {X Y : Type 0} (f : X → Y) (before : List Y) (xs : List X) (i : ℕ) (d x : X) → i < length xs → x ≡ get_or xs i d → (before ++ map f (take i xs)) ++ f x ∷ [] ≡ before ++ map f (take (i + 1) xs)
-row_more f before xs i d x below is = append_assoc before (map f (take i xs)) (f x ∷ []) ∙ ap (λ y. before ++ (map f (take i xs) ++ f y ∷ [])) is ∙ ap (λ l. before ++ l) (sym (map_more f xs i d below))
+-- all that waited is sent
+pub sends_all : (line : Row → List ℕ) (pending : List Row) (text : List ℕ) (held holds : Option (List ℕ)) → text ≡ flat_map line pending → holds ≡ and_then_bytes held text → Sends line [] pending held holds []
+sends_all line pending text held holds is grew = record { sent = pending; grew = grew ∙ ap (and_then_bytes held) is; whole = refl }
 
--- and those behind it
-pub rows_behind : {X Y : Type 0} (f : X → Y) (before : List Y) (xs : List X) (i : ℕ) (d x : X) → i < length xs → x ≡ get_or xs i d → ((before ++ map f (take i xs)) ++ f x ∷ []) ++ map f (drop (i + 1) xs) ≡ before ++ map f xs
-rows_behind f before xs i d x below is =
-    ap (λ l. l ++ map f (drop (i + 1) xs)) (row_more f before xs i d x below is) ∙ append_assoc before (map f (take (i + 1) xs)) (map f (drop (i + 1) xs))
-    ∙ ap (λ l. before ++ l) (sym (map-append f (take (i + 1) xs) (drop (i + 1) xs)) ∙ ap (map f) (take-append-drop (i + 1) xs))
+-- some rows and then others
+pub sends_then : (line : Row → List ℕ) (a b pending middle rest : List Row) (held mid holds : Option (List ℕ)) → Sends line a pending held mid middle → Sends line b middle mid holds rest → Sends line (a ++ b) pending held holds rest
+sends_then line a b pending middle rest held mid holds first second = record {
+  sent = first.sent ++ second.sent;
+  grew =
+      second.grew ∙ ap (λ o. and_then_bytes o (flat_map line second.sent)) first.grew ∙ and_then_bytes-twice held (flat_map line first.sent) (flat_map line second.sent)
+      ∙ ap (and_then_bytes held) (sym (flat_map-append line first.sent second.sent));
+  whole = append_assoc first.sent second.sent rest ∙ ap (λ l. first.sent ++ l) second.whole ∙ sym (append_assoc first.sent middle b) ∙ ap (λ l. l ++ b) first.whole ∙ append_assoc pending a b;
+}
 
--- what stopped at some rows stopped in all
-pub passes_stopped : (line : List PlainValue → List ℕ) (rows more later all : List (List PlainValue)) (held mid holds : Option (List ℕ)) (middle waits : List ℕ) (fault : SendFault) → (rows ++ more) ++ later ≡ all → (first : Sends line rows held mid middle) → Passes line (first.later ++ more) mid holds waits (Err fault)
-    → Passes line all held holds waits (Err fault)
-passes_stopped line rows more later all held mid holds middle waits Write is first part =
-    subst (λ l. GotPart l held holds) (sym (flat_map-append line (rows ++ more) later) ∙ ap (flat_map line) is) (part_front (flat_map line (rows ++ more)) (flat_map line later) held holds (part_then line rows more held mid holds middle first part))
-passes_stopped line rows more later all held mid holds middle waits Memory is first got = subst (λ l. GotFirst line l held holds) is (first_front line (rows ++ more) later held holds (first_then line rows more held mid holds middle first got))
+-- the first rows of more
+pub sends_front : (line : Row → List ℕ) (a b pending rest : List Row) (held holds : Option (List ℕ)) → Sends line a pending held holds rest → Sends line (a ++ b) pending held holds (rest ++ b)
+sends_front line a b pending rest held holds sends = sends_then line a b pending rest (rest ++ b) held holds holds sends (sends_later line b rest holds)
+
+-- a front of the lines that waited and of those behind them
+pub got_after : (line : Row → List ℕ) (a b pending middle : List Row) (held mid holds : Option (List ℕ)) → Sends line a pending held mid middle → GotPart (flat_map line (middle ++ b)) mid holds → GotPart (flat_map line (pending ++ (a ++ b))) held holds
+got_after line a b pending middle held mid holds first got =
+    let whole : first.sent ++ (middle ++ b) ≡ pending ++ (a ++ b) = sym (append_assoc first.sent middle b) ∙ ap (λ l. l ++ b) first.whole ∙ append_assoc pending a b in
+    subst (λ (l : List Row). GotPart (flat_map line l) held holds) whole
+    (subst (λ l. GotPart l held holds) (sym (flat_map-append line first.sent (middle ++ b))) (got_behind (flat_map line first.sent) (flat_map line (middle ++ b)) held mid holds first.grew got))
+
+-- ---- one row more
+
+pub lines_more : (line : Row → List ℕ) (row : Row) (pending : List Row) (before : List ℕ) → before ≡ flat_map line pending → before ++ line row ≡ flat_map line (pending ++ row ∷ [])
+lines_more line row pending before is = ap (λ l. l ++ line row) is ∙ ap (λ l. flat_map line pending ++ l) (sym (append-nil (line row))) ∙ sym (flat_map-append line pending (row ∷ []))
+
+-- its line waits behind the others
+pub row_waits : (line : Row → List ℕ) (row : Row) (pending : List Row) (held : Option (List ℕ)) (before waiting : List ℕ) → before ≡ flat_map line pending → waiting ≡ before ++ line row → Waits line (row ∷ []) pending held held waiting
+row_waits line row pending held before waiting is grew = record { rest = pending ++ row ∷ []; sends = sends_later line (row ∷ []) pending held; lines = grew ∙ lines_more line row pending before is }
+
+-- what was passed on with the row among those that wait
+pub passes_row : (line : Row → List ℕ) (row : Row) (pending : List Row) (waiting : List ℕ) (held holds : Option (List ℕ)) (result : Result Unit SendFault) → Passes line [] (pending ++ row ∷ []) waiting held holds result → Passes line (row ∷ []) pending waiting held holds result
+passes_row line row pending waiting held holds (Ok u) w = record { rest = w.rest; sends = record { sent = w.sends.sent; grew = w.sends.grew; whole = w.sends.whole ∙ append-nil (pending ++ row ∷ []) }; lines = w.lines }
+passes_row line row pending waiting held holds (Err Write) got = subst (λ (l : List Row). GotPart (flat_map line l) held holds) (append-nil (pending ++ row ∷ [])) got
+passes_row line row pending waiting held holds (Err Memory) (rest, sends) = (rest, record { sent = sends.sent; grew = sends.grew; whole = sends.whole ∙ append-nil (pending ++ row ∷ []) })
+
+-- ---- the rows of a list
+
+-- one row more was passed on
+pub row_passed : {X : Type 0} (line : Row → List ℕ) (f : X → Row) (xs : List X) (i : ℕ) (d x : X) (pending : List Row) (middle waiting : List ℕ) (held mid holds : Option (List ℕ)) → i < length xs → x ≡ get_or xs i d → (before : Waits line (map f (take i xs)) pending held mid middle)
+    → Waits line (f x ∷ []) before.rest mid holds waiting → Waits line (map f (take (i + 1) xs)) pending held holds waiting
+row_passed line f xs i d x pending middle waiting held mid holds below is before here = record {
+  rest = here.rest;
+  sends =
+      subst (λ l. Sends line l pending held holds here.rest) (ap (λ y. map f (take i xs) ++ f y ∷ []) is ∙ sym (map_more f xs i d below))
+      (sends_then line (map f (take i xs)) (f x ∷ []) pending before.rest here.rest held mid holds before.sends here.sends);
+  lines = here.lines;
+}
+
+-- the rows in two parts
+parts_are : {X : Type 0} (f : X → Row) (xs : List X) (i : ℕ) (d x : X) → i < length xs → x ≡ get_or xs i d → map f xs ≡ (map f (take i xs) ++ f x ∷ []) ++ map f (drop (i + 1) xs)
+parts_are f xs i d x below is =
+    ap (λ l. map f l) (sym (take-append-drop (i + 1) xs)) ∙ map-append f (take (i + 1) xs) (drop (i + 1) xs) ∙ ap (λ l. l ++ map f (drop (i + 1) xs)) (map_more f xs i d below ∙ ap (λ y. map f (take i xs) ++ f y ∷ []) (sym is))
+
+-- the rows stopped at this one
+pub rows_stopped : {X : Type 0} (line : Row → List ℕ) (f : X → Row) (xs : List X) (i : ℕ) (d x : X) (pending : List Row) (middle waiting last : List ℕ) (held mid holds : Option (List ℕ)) (fault : SendFault) → i < length xs → x ≡ get_or xs i d → (before : Waits line (map f (take i xs)) pending held mid middle)
+    → Passes line (f x ∷ []) before.rest waiting mid holds (Err fault) → Passes line (map f xs) pending last held holds (Err fault)
+rows_stopped line f xs i d x pending middle waiting last held mid holds Write below is before got =
+    let front = got_after line (map f (take i xs)) (f x ∷ []) pending before.rest held mid holds before.sends got in
+    let behind = map f (drop (i + 1) xs) in
+    let whole : (pending ++ (map f (take i xs) ++ f x ∷ [])) ++ behind ≡ pending ++ map f xs = append_assoc pending (map f (take i xs) ++ f x ∷ []) behind ∙ ap (λ l. pending ++ l) (sym (parts_are f xs i d x below is)) in
+    subst (λ (l : List Row). GotPart (flat_map line l) held holds) whole
+    (subst (λ l. GotPart l held holds) (sym (flat_map-append line (pending ++ (map f (take i xs) ++ f x ∷ [])) behind)) (got_more (flat_map line (pending ++ (map f (take i xs) ++ f x ∷ []))) (flat_map line behind) held holds front))
+rows_stopped line f xs i d x pending middle waiting last held mid holds Memory below is before (rest, sends) =
+    let behind = map f (drop (i + 1) xs) in (
+      rest ++ behind,
+      subst (λ l. Sends line l pending held holds (rest ++ behind)) (sym (parts_are f xs i d x below is))
+          (sends_front line (map f (take i xs) ++ f x ∷ []) behind pending rest held holds (sends_then line (map f (take i xs)) (f x ∷ []) pending before.rest rest held mid holds before.sends sends)),
+    )
+
+-- all rows were passed on
+pub rows_passed : {X : Type 0} (line : Row → List ℕ) (f : X → Row) (xs : List X) (i : ℕ) (pending : List Row) (waiting : List ℕ) (held holds : Option (List ℕ)) → length xs ≤ i → Waits line (map f (take i xs)) pending held holds waiting → Waits line (map f xs) pending held holds waiting
+rows_passed line f xs i pending waiting held holds ended waits = subst (λ l. Waits line (map f l) pending held holds waiting) (take_all i xs ended) waits

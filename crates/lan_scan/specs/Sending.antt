@@ -9,23 +9,20 @@ use Rattle.lan_scan.specs.declared.sending.SendFault.TheVariants.{Write, Memory}
 abbrev pub GotPart : List ℕ → Option (List ℕ) → Option (List ℕ) → Type 0
 GotPart text held holds = (k : ℕ) × (k ≤ length text) × (holds ≡ and_then_bytes held (take k text))
 
--- the sink got the lines of the first rows, whole
-pub record GotFirst (line : List PlainValue → List ℕ) (rows : List (List PlainValue)) (held holds : Option (List ℕ)) : Type 0 where
+-- of the rows whose lines were waiting and those behind them the sink got the lines of the first, and the others are the rest
+pub record Sends (line : List PlainValue → List ℕ) (rows pending : List (List PlainValue)) (held holds : Option (List ℕ)) (rest : List (List PlainValue)) : Type 0 where
   pub sent : List (List PlainValue)
-  pub later : List (List PlainValue)
-  pub all : sent ++ later ≡ rows
   pub grew : holds ≡ and_then_bytes held (flat_map line sent)
+  pub whole : sent ++ rest ≡ pending ++ rows
 
--- the sink got the lines of the first rows, and those of the others wait
-pub record Sends (line : List PlainValue → List ℕ) (rows : List (List PlainValue)) (held holds : Option (List ℕ)) (waits : List ℕ) : Type 0 where
-  pub sent : List (List PlainValue)
-  pub later : List (List PlainValue)
-  pub all : sent ++ later ≡ rows
-  pub grew : holds ≡ and_then_bytes held (flat_map line sent)
-  pub wait : waits ≡ flat_map line later
+-- and the lines of the rest are waiting
+pub record Waits (line : List PlainValue → List ℕ) (rows pending : List (List PlainValue)) (held holds : Option (List ℕ)) (waiting : List ℕ) : Type 0 where
+  pub rest : List (List PlainValue)
+  pub sends : Sends line rows pending held holds rest
+  pub lines : waiting ≡ flat_map line rest
 
--- a sink that failed got a front of the lines, and where memory ran short it got whole ones
-abbrev pub Passes : (List PlainValue → List ℕ) → List (List PlainValue) → Option (List ℕ) → Option (List ℕ) → List ℕ → Result Unit SendFault → Type 0
-Passes line rows held holds waits (Ok _) = Sends line rows held holds waits
-Passes line rows held holds waits (Err Write) = GotPart (flat_map line rows) held holds
-Passes line rows held holds waits (Err Memory) = GotFirst line rows held holds
+-- the lines of rows were passed on behind those that waited; only a failed write cuts a line
+abbrev pub Passes : (List PlainValue → List ℕ) → List (List PlainValue) → List (List PlainValue) → List ℕ → Option (List ℕ) → Option (List ℕ) → Result Unit SendFault → Type 0
+Passes line rows pending waiting held holds (Ok _) = Waits line rows pending held holds waiting
+Passes line rows pending waiting held holds (Err Write) = GotPart (flat_map line (pending ++ rows)) held holds
+Passes line rows pending waiting held holds (Err Memory) = (rest : List (List PlainValue)) × Sends line rows pending held holds rest

@@ -1,5 +1,5 @@
 // The rows of a version, fragment by fragment.
-ghost use Rattle.std.specs.Prelude.{◌≡◌, ◌*◌, [], List, length, All, flat_map, map, IsErrOf};
+ghost use Rattle.std.specs.Prelude.{◌≡◌, ◌*◌, List, [], length, flat_map, All, IsErrOf, map};
 ghost use Rattle.std.specs.Option.{ForSome};
 ghost use Rattle.lan_store.specs.Budget.{ranges};
 ghost use Rattle.lan_store.specs.Causes.{HasCause};
@@ -14,12 +14,13 @@ ghost use Rattle.lan_scan.specs.Printing.{PrintsAll, PrintsFragment};
 ghost use Rattle.lan_scan.specs.Scans.{Scans, scan_failure};
 
 use crate::sending::{SendFault, print_rows};
+use lan_file::FileReason;
 use lan_manifest::{Fragment, Manifest};
 use lan_model::{Blob, FieldList};
-use lan_read::{ReadFault, read_fragment};
+use lan_read::{FragmentFault, read_fragment};
 use lan_rows::RowPrinter;
 use lan_store::laws::looks_add_up;
-use lan_store::{Sink, Store, write_all};
+use lan_store::{Name, Sink, Store, write_all};
 use std::alloc::{AllocError, Global};
 
 // Room for the bytes that wait for a write, and a line behind them.
@@ -28,30 +29,22 @@ const ROOM: usize = 1 << 17;
 /// Why not all rows were printed.
 #[derive(Debug, Drop)]
 pub enum ScanFault {
-    /// A fragment's rows weren't read, or memory ran short.
-    Read(ReadFault),
+    /// A data file isn't read: why, and at which byte, counted from the object's front.
+    Outside(Name, FileReason, u64),
+    /// The store failed at this name.
+    Store(Name),
     /// The sink failed.
     Write,
-}
-
-impl From<ReadFault> for ScanFault {
-    ghost use Rattle.lan_scan.specs.declared.scanning.ScanFault.TheVariants.{Read};
-
-    ghost from_gives = { λ fault e. e ≡ Read fault };
-
-    fn from(fault: ReadFault) -> Self {
-        ScanFault::Read(fault)
-    }
+    Memory,
 }
 
 impl From<AllocError> for ScanFault {
-    ghost use Rattle.lan_read.specs.declared.fault.ReadFault.TheVariants.{Memory};
-    ghost use Rattle.lan_scan.specs.declared.scanning.ScanFault.TheVariants.{Read};
+    ghost use Rattle.lan_scan.specs.declared.scanning.ScanFault.TheVariants.{Memory};
 
-    ghost from_gives = { λ _ e. e ≡ Read Memory };
+    ghost from_gives = { λ _ e. e ≡ Memory };
 
     fn from(_: AllocError) -> Self {
-        ScanFault::Read(ReadFault::Memory)
+        ScanFault::Memory
     }
 }
 
@@ -64,10 +57,10 @@ pub fn print_table<S: Store, O: Sink>(
     out: &mut O,
 ) -> Result<(), ScanFault>
     requires { IsOpened (plain_manifest manifest.now) }
-
-    // The sink got the lines of all rows; or, on any folder, whole lines of front rows where the reason
-    // stands in a data file, the store failed or memory ran short; or a front of such lines.
     ensures looked { Looked (scan_failure result) (ranges (4 * length manifest.now.fragments)) (S.tells store.old) (S.tells store.new) }
+
+    // The sink got the lines of all rows, or the first of them: whole lines, unless a write failed. A
+    // reason stands in a data file.
     ensures scans { ForSome (S.tells store.old).objects (λ all. Scans all (plain_manifest manifest.now) (O.held out.old) (O.held out.new) result) }
 
     ensures write_cause { HasCause (IsErrOf result ScanFault.Write) (O.faults out.old) (O.faults out.new) }
@@ -127,14 +120,21 @@ fn print_fragment<S: Store, O: Sink>(
     requires column { IsOneColumn (map plain_field fields.now) }
     requires file { IsOneFile fragment.now }
     ensures looked { Looked (scan_failure result) (ranges 4) (S.tells store.old) (S.tells store.new) }
-    ensures prints { ForSome (S.tells store.old).objects (λ all. (before : List (List PlainValue)) → waiting.old ≡ flat_map (line_of (map column_of printer.old)) before → PrintsFragment all (map plain_field fields.now) fragment.now (line_of (map column_of printer.old)) before waiting.new (O.held out.old) (O.held out.new) result) }
+    ensures prints { (pending : List (List PlainValue)) → waiting.old ≡ flat_map (line_of (map column_of printer.old)) pending → ForSome (S.tells store.old).objects (λ all. PrintsFragment all (map plain_field fields.now) fragment.now (line_of (map column_of printer.old)) pending waiting.new (O.held out.old) (O.held out.new) result) }
     ensures same { printer.new ≡ printer.old }
     ensures write_cause { HasCause (IsErrOf result ScanFault.Write) (O.faults out.old) (O.faults out.new) }
 {
-    let rows = read_fragment(alloc, store, fields, fragment)?;
+    let rows = match read_fragment(alloc, store, fields, fragment) {
+        Ok(rows) => rows,
+        Err(FragmentFault::Outside(name, why, place)) => {
+            return Err(ScanFault::Outside(name, why, place));
+        }
+        Err(FragmentFault::Store(name)) => return Err(ScanFault::Store(name)),
+        Err(FragmentFault::Memory) => return Err(ScanFault::Memory),
+    };
     match print_rows(alloc, printer, &rows, waiting, out) {
         Ok(()) => Ok(()),
         Err(SendFault::Write) => Err(ScanFault::Write),
-        Err(SendFault::Memory) => Err(ScanFault::Read(ReadFault::Memory)),
+        Err(SendFault::Memory) => Err(ScanFault::Memory),
     }
 }

@@ -1,15 +1,14 @@
 // The lines of rows, to a sink by way of bytes that wait for the next write.
-ghost use Rattle.std.specs.Prelude.{◌≡◌, ◌∷◌, ◌++◌, [], List, flat_map, map, OnOk, OnErr, IsErr, IsErrOf};
-ghost use Rattle.lan_model.specs.Plain.{PlainValue};
+ghost use Rattle.std.specs.Prelude.{◌≡◌, ◌∷◌, ℕ, List, [], flat_map, map, OnOk, IsErrOf};
+ghost use Rattle.lan_model.specs.Plain.{PlainValue, plain_value};
 ghost use Rattle.lan_model.specs.PlainTable.{column_of, row_of};
 ghost use Rattle.lan_store.specs.Causes.{HasCause};
-ghost use Rattle.lan_store.specs.Streams.{and_then_bytes};
 ghost use Rattle.lan_rows.specs.Line.{line_of};
-ghost use Rattle.lan_scan.specs.Sending.{GotPart, Passes};
+ghost use Rattle.lan_scan.specs.Sending.{Passes};
 
 use lan_model::{Blob, Row, Rows};
 use lan_rows::RowPrinter;
-use lan_store::{Failed, Sink, write_all};
+use lan_store::{Sink, write_all};
 use std::alloc::Global;
 
 /// Why not all lines were passed on.
@@ -31,9 +30,7 @@ pub fn print_rows<O: Sink>(
     waiting: &mut Blob,
     out: &mut O,
 ) -> Result<(), SendFault>
-    // Whichever rows' lines waited.
-    ensures passes { (before : List (List PlainValue)) → waiting.old ≡ flat_map (line_of (map column_of printer.old)) before → Passes (line_of (map column_of printer.old)) (before ++ map row_of rows.now) (O.held out.old) (O.held out.new) waiting.new result }
-
+    ensures passes { (pending : List (List PlainValue)) → waiting.old ≡ flat_map (line_of (map column_of printer.old)) pending → Passes (line_of (map column_of printer.old)) (map row_of rows.now) pending waiting.new (O.held out.old) (O.held out.new) result }
     ensures same { printer.new ≡ printer.old }
     ensures write_cause { HasCause (IsErrOf result SendFault.Write) (O.faults out.old) (O.faults out.new) }
 {
@@ -51,7 +48,7 @@ fn print_row<O: Sink>(
     waiting: &mut Blob,
     out: &mut O,
 ) -> Result<(), SendFault>
-    ensures passes { (before : List (List PlainValue)) → waiting.old ≡ flat_map (line_of (map column_of printer.old)) before → Passes (line_of (map column_of printer.old)) (before ++ row_of row.now ∷ []) (O.held out.old) (O.held out.new) waiting.new result }
+    ensures passes { (pending : List (List PlainValue)) → waiting.old ≡ flat_map (line_of (map column_of printer.old)) pending → Passes (line_of (map column_of printer.old)) (map plain_value row.now ∷ []) pending waiting.new (O.held out.old) (O.held out.new) result }
     ensures same { printer.new ≡ printer.old }
     ensures write_cause { HasCause (IsErrOf result SendFault.Write) (O.faults out.old) (O.faults out.new) }
 {
@@ -61,19 +58,18 @@ fn print_row<O: Sink>(
     if waiting.len() < PIECE {
         return Ok(());
     }
-    match flush(waiting, out) {
-        Ok(()) => Ok(()),
-        Err(_) => Err(SendFault::Write),
-    }
+    flush(waiting, out)
 }
 
 // Writes what is waiting.
-fn flush<O: Sink>(waiting: &mut Blob, out: &mut O) -> Result<(), Failed>
-    ensures ok { OnOk result ((O.held out.new ≡ and_then_bytes (O.held out.old) waiting.old) × (waiting.new ≡ [])) }
-    ensures err { OnErr result (GotPart waiting.old (O.held out.old) (O.held out.new)) }
-    ensures write_cause { HasCause (IsErr result) (O.faults out.old) (O.faults out.new) }
+fn flush<O: Sink>(waiting: &mut Blob, out: &mut O) -> Result<(), SendFault>
+    ensures passes { (line : List PlainValue → List ℕ) (pending : List (List PlainValue)) → waiting.old ≡ flat_map line pending → Passes line [] pending waiting.new (O.held out.old) (O.held out.new) result }
+    ensures ok { OnOk result (waiting.new ≡ []) }
+    ensures write_cause { HasCause (IsErrOf result SendFault.Write) (O.faults out.old) (O.faults out.new) }
 {
-    write_all(out, waiting.as_slice())?;
+    if write_all(out, waiting.as_slice()).is_err() {
+        return Err(SendFault::Write);
+    }
     waiting.truncate(0);
     Ok(())
 }

@@ -1,11 +1,11 @@
 -- What is written of fields is their trees laid flat, which stand for the fields again.
 use Rattle.std.proofs.Common.{◌≡◌, ℕ, ◌+◌, ◌^◌, ◌<◌, ◌≤◌, Bool, true, false, cond, List, [], ◌∷◌, ◌++◌, length, length-append, refl, sym, ap, subst, ◌∙◌, arith, pos, negsuc}
-use Rattle.std.specs.Prelude.{ℤ, IsTrue, nat_eq, codes, decimal}
+use Rattle.std.specs.Prelude.{ℤ, IsTrue, codes, decimal, map, flat_map}
 use Rattle.std.specs.Str.{is_utf8, IsUtf8}
 use Rattle.std.proofs.lemmas.Int.{ints}
 use Rattle.std.proofs.lemmas.Fmt.{IsAscii-decimal}
 use Rattle.std.proofs.lemmas.List.{append-nil}
-use Rattle.std.proofs.lemmas.List.Elements.{filter-append}
+use Rattle.std.proofs.lemmas.List.Concat.{flat_map-cons, flat_map-append}
 use Rattle.std.specs.Prelude.{slice_index}
 use Rattle.std.proofs.Common.{zero, suc, ltb}
 use Rattle.std.proofs.lemmas.Bool.{false≢true, ltb-true}
@@ -16,15 +16,18 @@ use Rattle.lan_model.specs.declared.tree.Primitive.{Primitive}
 use Rattle.lan_model.specs.declared.tree.Primitive.TheVariants as kind
 use Rattle.lan_model.specs.Plain.{PlainType, primitive, vector, text, bytes, list, struct, PlainField, field, PlainFields, no_fields, one_field}
 use Rattle.lan_model.specs.Table.{IsField, AreFields}
-use Rattle.lan_wire.specs.declared.item.Item.{Item}
+use Rattle.lan_wire.specs.declared.rules.Kind.{Kind}
+use Rattle.lan_wire.specs.declared.rules.Kind.TheVariants.{Messages, Past}
+use Rattle.lan_wire.specs.Messages.{ReadsItems, ReadEach}
 use Rattle.lan_wire.specs.Readers.{IsInt32}
+use Rattle.lan_wire.specs.Rules.{kind_at}
 use Rattle.lan_wire.specs.Spelling.{num_field, part_item, part_field, two_complement, key, varint}
-use Rattle.lan_wire.specs.Spells.{Items, part_placed}
-use Rattle.lan_wire.proofs.MessageLaws.{items_append}
-use Rattle.lan_wire.proofs.WrittenLaws.{part_spelled}
-use Rattle.lan_schema.specs.FieldMessage.{Flat, field_text, flag, IsFlat}
-use Rattle.lan_schema.specs.FieldMessages.{of_number, SaysItem, SayAll, SaysFields}
-use Rattle.lan_schema.specs.FieldTree.{name_of, list_name, logical_of, kind_of, signed, field_messages, inside_messages, all_messages}
+use Rattle.lan_wire.specs.Values.{parts_under}
+use Rattle.lan_wire.specs.Written.{parts, flag_number, WrittenField, spelling_of, FitsKind, CanWriteAll, about, items_placed}
+use Rattle.lan_wire.proofs.LawTerms.{written_read as written_items_read, all_short, parts_back}
+use Rattle.lan_schema.specs.FieldMessage.{Flat, SaysField, field_text, IsFlat}
+use Rattle.lan_schema.specs.FieldMessages.{listing, SaysFields}
+use Rattle.lan_schema.specs.FieldTree.{name_of, list_name, logical_of, type_number, signed, flat_field, own_message, field_messages, inside_messages, all_messages}
 use Rattle.lan_schema.specs.FieldsOf.{natural}
 use Rattle.lan_schema.specs.Forest.{Trees, none, laid, Absent}
 use Rattle.lan_schema.specs.Written.{trees_in, tree_before, trees_of, CanTellType, CanTell, CanTellAll}
@@ -95,41 +98,37 @@ logical_utf8 (struct members) id name nullable h = short_utf8 (codes "struct") r
 
 -- ---- the messages say the trees laid flat
 
--- bytes that, wherever they lie, are messages of these fields under a number
-record Says (number : ℕ) (bytes : List ℕ) (fs : List Flat) (at : ℕ) : Type 0 where
-  items : List Item
-  spelled : Items at bytes items
-  said : SayAll (of_number number items) fs
+-- wherever they lie, these bytes say these fields, one each
+abbrev SayTexts : List (List ℕ) → List Flat → Type 0
+SayTexts [] fs = fs ≡ []
+SayTexts (body ∷ texts) fs = (f : Flat) × (rest : List Flat) × (fs ≡ f ∷ rest) × ((at : ℕ) → SaysField (record { base = at; bytes = body }) f) × SayTexts texts rest
 
-say_append : (xs ys : List Item) (fs gs : List Flat) → SayAll xs fs → SayAll ys gs → SayAll (xs ++ ys) (fs ++ gs)
-say_append [] ys fs gs p q = subst (λ (t : List Flat). SayAll ys (t ++ gs)) (sym p) q
-say_append (x ∷ xs) ys fs gs p q = (p.0, p.1 ++ gs, ap (λ (t : List Flat). t ++ gs) p.2, p.3, say_append xs ys p.1 gs p.4 q)
+-- the bytes are messages of these fields under a number
+record Says (number : ℕ) (bytes : List ℕ) (fs : List Flat) : Type 0 where
+  texts : List (List ℕ)
+  spelled : bytes ≡ flat_map (λ text. part_item number text) texts
+  said : SayTexts texts fs
 
-says_then : (number : ℕ) (a b : List ℕ) (fs gs : List Flat) → ((at : ℕ) → Says number a fs at) → ((at : ℕ) → Says number b gs at) → (at : ℕ) → Says number (a ++ b) (fs ++ gs) at
-says_then number a b fs gs p q at =
-    let x = p at in
-    let y = q (at + length a) in
-    record {
-      items = x.items ++ y.items;
-      spelled = items_append at a b x.items y.items x.spelled y.spelled;
-      said = subst (λ (items : List Item). SayAll items (fs ++ gs)) (sym (filter-append (λ (item : Item). nat_eq item.number number) x.items y.items)) (say_append (of_number number x.items) (of_number number y.items) fs gs x.said y.said);
-    }
+texts_append : (xs ys : List (List ℕ)) (fs gs : List Flat) → SayTexts xs fs → SayTexts ys gs → SayTexts (xs ++ ys) (fs ++ gs)
+texts_append [] ys fs gs p q = subst (λ (t : List Flat). SayTexts ys (t ++ gs)) (sym p) q
+texts_append (x ∷ xs) ys fs gs p q = (p.0, p.1 ++ gs, ap (λ (t : List Flat). t ++ gs) p.2, p.3, texts_append xs ys p.1 gs p.4 q)
 
-says_none : (number at : ℕ) → Says number [] [] at
-says_none number at = record { items = []; spelled = refl; said = refl }
+says_then : (number : ℕ) (a b : List ℕ) (fs gs : List Flat) → Says number a fs → Says number b gs → Says number (a ++ b) (fs ++ gs)
+says_then number a b fs gs p q = record {
+  texts = p.texts ++ q.texts;
+  spelled = ap (λ (t : List ℕ). t ++ b) p.spelled ∙ ap (λ (t : List ℕ). flat_map (λ text. part_item number text) p.texts ++ t) q.spelled ∙ sym (flat_map-append (λ (text : List ℕ). part_item number text) p.texts q.texts);
+  said = texts_append p.texts q.texts fs gs p.said q.said;
+}
 
-says_one : (number kind : ℕ) (f : Flat) → 0 < number → number < 2 ^ 29 → kind < 2 ^ 64 → IsFlat f → length (field_text kind f) < 2 ^ 63 → (at : ℕ) → Says number (part_item number (field_text kind f)) (f ∷ []) at
-says_one number kind f low up few is small at =
-    let body = field_text kind f in
-    let item : Item = part_placed at number body in
-    let part : Placed = record { base = at + length (key number 2) + length (varint (length body)); bytes = body } in
-    let one : SaysItem item f = (part, refl, read_back part.base kind f few is) in
-    let all : SayAll (item ∷ []) (f ∷ []) = (f, [], refl, one, refl) in
-    record {
-      items = item ∷ [];
-      spelled = (part_item number body, [], sym (append-nil (part_item number body)), part_spelled at number body low up (omega (arith, small)), refl, refl);
-      said = subst (λ (b : Bool). SayAll (cond b (item ∷ []) []) (f ∷ [])) (sym (nat_same number)) all;
-    }
+says_none : (number : ℕ) → Says number [] []
+says_none number = record { texts = []; spelled = refl; said = refl }
+
+says_one : (number kind : ℕ) (f : Flat) → kind < 2 ^ 64 → IsFlat f → Says number (part_item number (field_text kind f)) (f ∷ [])
+says_one number kind f few is = record {
+  texts = field_text kind f ∷ [];
+  spelled = sym (append-nil (part_item number (field_text kind f))) ∙ sym (flat_map-cons (λ (text : List ℕ). part_item number text) (field_text kind f) []);
+  said = (f, [], refl, (λ at. read_back at kind f few is), refl);
+}
 
 part_long : (number : ℕ) (body : List ℕ) → length body ≤ length (part_item number body)
 part_long number body = omega (arith, length-append (key number 2) (varint (length body) ++ body), length-append (varint (length body)) body)
@@ -149,7 +148,7 @@ shorter kind f =
     let c = num_field 3 (two_complement f.id) in
     let d = num_field 4 (two_complement f.parent) in
     let e = part_field 5 f.logical in
-    let g = num_field 6 (flag f.nullable) in
+    let g = num_field 6 (flag_number f.nullable) in
     let ab = length-append a b in
     let abc = length-append (a ++ b) c in
     let abcd = length-append (a ++ b ++ c) d in
@@ -174,7 +173,7 @@ flat_is kind f name id parent logical small =
       logical_fits = omega (arith, s.logical, small);
     }
 
-kind_small : (ty : PlainType ℕ) → kind_of ty < 2 ^ 64
+kind_small : (ty : PlainType ℕ) → type_number ty < 2 ^ 64
 kind_small (primitive q) = omega arith
 kind_small (vector q n) = omega arith
 kind_small text = omega arith
@@ -182,44 +181,73 @@ kind_small bytes = omega arith
 kind_small (list item) = omega arith
 kind_small (struct members) = omega arith
 
--- a message's number
-record IsNumber (number : ℕ) : Type 0 where
-  pub low : 0 < number
-  pub up : number < 2 ^ 29
+told_flat : (parent : ℤ) (f : PlainField ℕ) → IsField f → IsInt32 parent → CanTell f → length (own_message parent f) < 2 ^ 63 → IsFlat (flat_field parent f)
+told_flat parent (field id name nullable ty) h p told short =
+    flat_is (type_number ty) (flat_field parent (field id name nullable ty)) told.1 (small_int id told.0) p (logical_utf8 ty id name nullable h) short
+
+-- the message of a field that can be told says it
+pub field_says : (at : ℕ) (parent : ℤ) (f : PlainField ℕ) → IsField f → IsInt32 parent → CanTell f → length (own_message parent f) < 2 ^ 63 → SaysField (record { base = at; bytes = own_message parent f }) (flat_field parent f)
+field_says at parent (field id name nullable ty) h p told short =
+    read_back at (type_number ty) (flat_field parent (field id name nullable ty)) (kind_small ty) (told_flat parent (field id name nullable ty) h p told short)
 
 mutual
-  says_inside : (number : ℕ) (parent : ℤ) (ty : PlainType ℕ) (id : ℕ) (name : List ℕ) (nullable : Bool) → IsField (field id name nullable ty) → IsNumber number → IsInt32 parent → CanTellType ty → length (inside_messages number parent ty) < 2 ^ 63 → (at : ℕ) → Says number (inside_messages number parent ty) (laid parent (trees_in ty)) at
-  says_inside number parent (primitive q) id name nullable h is p told small at = says_none number at
-  says_inside number parent (vector q n) id name nullable h is p told small at = says_none number at
-  says_inside number parent text id name nullable h is p told small at = says_none number at
-  says_inside number parent bytes id name nullable h is p told small at = says_none number at
-  says_inside number parent (list item) id name nullable h is p told small at =
-      subst (λ (b : List ℕ). Says number b (laid parent (tree_before item none)) at) (append-nil (field_messages number parent item)) (says_before number parent item none [] h is p told small (says_none number) at)
-  says_inside number parent (struct members) id name nullable h is p told small at = says_all number parent members h.1 is p told small at
+  says_inside : (number : ℕ) (parent : ℤ) (ty : PlainType ℕ) (id : ℕ) (name : List ℕ) (nullable : Bool) → IsField (field id name nullable ty) → IsInt32 parent → CanTellType ty → length (inside_messages number parent ty) < 2 ^ 63 → Says number (inside_messages number parent ty) (laid parent (trees_in ty))
+  says_inside number parent (primitive q) id name nullable h p told small = says_none number
+  says_inside number parent (vector q n) id name nullable h p told small = says_none number
+  says_inside number parent text id name nullable h p told small = says_none number
+  says_inside number parent bytes id name nullable h p told small = says_none number
+  says_inside number parent (list item) id name nullable h p told small =
+      subst (λ (b : List ℕ). Says number b (laid parent (tree_before item none))) (append-nil (field_messages number parent item)) (says_before number parent item none [] h p told small (says_none number))
+  says_inside number parent (struct members) id name nullable h p told small = says_all number parent members h.1 p told small
 
-  says_before : (number : ℕ) (parent : ℤ) (f : PlainField ℕ) (others : Trees) (rest : List ℕ) → IsField f → IsNumber number → IsInt32 parent → CanTell f → length (field_messages number parent f) < 2 ^ 63 → ((at : ℕ) → Says number rest (laid parent others) at) → (at : ℕ) → Says number (field_messages number parent f ++ rest) (laid parent (tree_before f others)) at
-  says_before number parent (field id name nullable ty) others rest f is p told small h at =
-      let flat : Flat = record { name = name; id = signed id; parent = parent; logical = logical_of ty; nullable = nullable } in
-      let body = field_text (kind_of ty) flat in
+  says_before : (number : ℕ) (parent : ℤ) (f : PlainField ℕ) (others : Trees) (rest : List ℕ) → IsField f → IsInt32 parent → CanTell f → length (field_messages number parent f) < 2 ^ 63 → Says number rest (laid parent others) → Says number (field_messages number parent f ++ rest) (laid parent (tree_before f others))
+  says_before number parent (field id name nullable ty) others rest f p told small h =
+      let own : PlainField ℕ = field id name nullable ty in
+      let flat : Flat = flat_field parent own in
+      let body = own_message parent own in
       let part = part_item number body in
       let inside = inside_messages number (signed id) ty in
       let size : length (part ++ inside) ≡ length part + length inside = length-append part inside in
       let longer : length body ≤ length part = part_long number body in
       let short : length body < 2 ^ 63 = omega (arith, small, size, longer) in
-      let one = says_one number (kind_of ty) flat is.low is.up (kind_small ty) (flat_is (kind_of ty) flat told.1 (small_int id told.0) p (logical_utf8 ty id name nullable f) short) short in
-      let within = says_inside number (signed id) ty id name nullable f is (small_int id told.0) told.2 (omega (arith, small, size)) in
-      says_then number (part ++ inside) rest ((flat ∷ []) ++ laid (signed id) (trees_in ty)) (laid parent others) (says_then number part inside (flat ∷ []) (laid (signed id) (trees_in ty)) one within) h at
+      let one = says_one number (type_number ty) flat (kind_small ty) (told_flat parent own f p told short) in
+      let within = says_inside number (signed id) ty id name nullable f (small_int id told.0) told.2 (omega (arith, small, size)) in
+      says_then number (part ++ inside) rest ((flat ∷ []) ++ laid (signed id) (trees_in ty)) (laid parent others) (says_then number part inside (flat ∷ []) (laid (signed id) (trees_in ty)) one within) h
 
-  says_all : (number : ℕ) (parent : ℤ) (fs : PlainFields ℕ) → AreFields fs → IsNumber number → IsInt32 parent → CanTellAll fs → length (all_messages number parent fs) < 2 ^ 63 → (at : ℕ) → Says number (all_messages number parent fs) (laid parent (trees_of fs)) at
-  says_all number parent no_fields h is p told small at = says_none number at
-  says_all number parent (one_field f fs) h is p told small at =
+  says_all : (number : ℕ) (parent : ℤ) (fs : PlainFields ℕ) → AreFields fs → IsInt32 parent → CanTellAll fs → length (all_messages number parent fs) < 2 ^ 63 → Says number (all_messages number parent fs) (laid parent (trees_of fs))
+  says_all number parent no_fields h p told small = says_none number
+  says_all number parent (one_field f fs) h p told small =
       let size = length-append (field_messages number parent f) (all_messages number parent fs) in
-      says_before number parent f (trees_of fs) (all_messages number parent fs) h.0 is p told.0 (omega (arith, small, size)) (says_all number parent fs h.1 is p told.1 (omega (arith, small, size))) at
+      says_before number parent f (trees_of fs) (all_messages number parent fs) h.0 p told.0 (omega (arith, small, size)) (says_all number parent fs h.1 p told.1 (omega (arith, small, size)))
+
+texts_read : (messages : List Placed) (texts : List (List ℕ)) (fs : List Flat) → map (λ (p : Placed). p.bytes) messages ≡ texts → SayTexts texts fs → ReadEach SaysField messages fs
+texts_read [] [] fs e s = s
+texts_read [] (t ∷ ts) fs e s = absurd cc
+texts_read (m ∷ ms) [] fs e s = absurd cc
+texts_read (m ∷ ms) (t ∷ ts) fs e s =
+    let bytes : m.bytes ≡ t = cc in
+    let others : map (λ (p : Placed). p.bytes) ms ≡ ts = cc in
+    (s.0, s.1, s.2, subst (λ (b : List ℕ). SaysField (record { base = m.base; bytes = b }) s.0) (sym bytes) (s.3 m.base), texts_read ms ts s.1 others s.4)
+
+listed : (number : ℕ) → kind_at (listing number) number ≡ Messages
+listed number = ap (λ (b : Bool). cond b Messages Past) (nat_same number)
+
+about_one : (number : ℕ) (texts : List (List ℕ)) → about number ((number, parts texts) ∷ []) ≡ parts texts ∷ []
+about_one number texts = ap (λ (b : Bool). cond b (parts texts ∷ []) []) (nat_same number)
 
 pub written_says : (number at : ℕ) (fs : PlainFields ℕ) → 0 < number → number < 2 ^ 29 → AreFields fs → CanTellAll fs → length (all_messages number (negsuc 0) fs) < 2 ^ 63 → SaysFields (record { base = at; bytes = all_messages number (negsuc 0) fs }) number (laid (negsuc 0) (trees_of fs))
 written_says number at fs low up types told small =
-    let s = says_all number (negsuc 0) fs types (record { low = low; up = up }) (omega arith) told small at in
-    record { items = s.items; spelled = s.spelled; said = s.said }
+    let s = says_all number (negsuc 0) fs types (omega arith) told small in
+    let fields : List WrittenField = (number, parts s.texts) ∷ [] in
+    let size : length (spelling_of fields) < 2 ^ 64 = omega (arith, small, ap length s.spelled) in
+    let fits : FitsKind (kind_at (listing number) number) (parts s.texts) = subst (λ (k : Kind). FitsKind k (parts s.texts)) (sym (listed number)) tt in
+    let can : CanWriteAll (listing number) [] fields = (record { low = low; up = up; room = refl; spells = tt; fits = fits }, tt) in
+    let reads = written_items_read (listing number) at fields can (all_short fields size) in
+    record {
+      items = items_placed at fields;
+      reads = subst (λ (bytes : List ℕ). ReadsItems (listing number) (record { base = at; bytes = bytes }) (items_placed at fields)) (sym s.spelled) reads;
+      said = texts_read (parts_under number (items_placed at fields)) s.texts (laid (negsuc 0) (trees_of fs)) (parts_back number at fields s.texts (about_one number s.texts)) s.said;
+    }
 
 -- ---- the trees stand for the fields
 

@@ -6,7 +6,7 @@ use Rattle.lan_model.specs.declared.tree.Primitive.{Primitive}
 use Rattle.lan_model.specs.declared.tree.Primitive.TheVariants as p
 use Rattle.lan_model.specs.Plain.{PlainType, PlainField, PlainFields, primitive, vector, text, bytes, list, struct, field, no_fields, one_field}
 use Rattle.lan_wire.specs.Spelling.{part_item}
-use Rattle.lan_schema.specs.FieldMessage.{field_text}
+use Rattle.lan_schema.specs.FieldMessage.{Flat, field_text}
 
 -- the logical type of a primitive
 abbrev pub name_of : Primitive → List ℕ
@@ -42,23 +42,31 @@ logical_of bytes = codes "binary"
 logical_of (list item) = list_name item
 logical_of (struct members) = codes "struct"
 
--- the number for a parent of several fields, of one, or of none
-abbrev pub kind_of : PlainType ℕ → ℕ
-kind_of (primitive q) = 2
-kind_of (vector q n) = 2
-kind_of text = 2
-kind_of bytes = 2
-kind_of (list item) = 1
-kind_of (struct members) = 0
+-- the number of a type: for a parent of several fields, of one, or of none
+abbrev pub type_number : PlainType ℕ → ℕ
+type_number (primitive q) = 2
+type_number (vector q n) = 2
+type_number text = 2
+type_number bytes = 2
+type_number (list item) = 1
+type_number (struct members) = 0
 
 -- a field's number as the message has it
 abbrev pub signed : ℕ → ℤ
 signed id = cast_signed w32 id
 
+-- what the message of a field inside a parent says
+abbrev pub flat_field : ℤ → PlainField ℕ → Flat
+flat_field parent (field id name nullable ty) = record { name = name; id = signed id; parent = parent; logical = logical_of ty; nullable = nullable }
+
+-- that message
+abbrev pub own_message : ℤ → PlainField ℕ → List ℕ
+own_message parent (field id name nullable ty) = field_text (type_number ty) (flat_field parent (field id name nullable ty))
+
 abbrev mutual
   -- the message of a field and of all inside it
   pub field_messages : ℕ → ℤ → PlainField ℕ → List ℕ
-  field_messages number parent (field id name nullable ty) = part_item number (field_text (kind_of ty) (record { name = name; id = signed id; parent = parent; logical = logical_of ty; nullable = nullable })) ++ inside_messages number (signed id) ty
+  field_messages number parent (field id name nullable ty) = part_item number (own_message parent (field id name nullable ty)) ++ inside_messages number (signed id) ty
 
   -- the messages of all that is inside a field of this type
   pub inside_messages : ℕ → ℤ → PlainType ℕ → List ℕ

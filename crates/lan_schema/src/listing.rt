@@ -1,5 +1,5 @@
-ghost use Rattle.std.specs.Prelude.{◌≡◌, IfOk, IfErr, MatchResult};
-ghost use Rattle.lan_schema.specs.FieldMessages.{SaysItem, FailsItem, SaysFields};
+ghost use Rattle.std.specs.Prelude.{IfOk, IfErr};
+ghost use Rattle.lan_schema.specs.FieldMessages.{SaysFields};
 ghost use Rattle.lan_schema.specs.SchemaFaults.{StandsIn};
 
 use crate::fault::SchemaFault;
@@ -7,17 +7,8 @@ use crate::node::Node;
 use crate::reading::read_entry;
 use lan_bytes::View;
 use lan_model::List;
-use lan_wire::{Fields, Item, WireFault};
+use lan_wire::{Kind, Rule, Said};
 use std::alloc::Global;
-
-// The field that an item is the message of.
-fn read_item<'a>(item: &Item<'a>) -> Result<Node<'a>, WireFault>
-    ensures { MatchResult result (λ node. SaysItem item.now node) (λ fault. FailsItem item.now fault) }
-{
-    let part = item.part()?;
-    let entry = read_entry(part)?;
-    Ok(Node::new(entry))
-}
 
 /// The fields that lie flat under a number of a message, in order.
 pub fn read_nodes<'a>(
@@ -28,12 +19,14 @@ pub fn read_nodes<'a>(
     ensures ok { IfOk result (λ nodes. SaysFields view.entry number nodes) }
     ensures err { IfErr result (StandsIn view.entry number) }
 {
-    let mut fields = Fields::new(view);
+    let rules = [Rule(number, Kind::Messages)];
+    let said = Said::read(view, &rules)?;
+    let mut parts = said.parts(number);
     let mut nodes = List::new(alloc);
-    while let Some(found) = fields.next() {
-        let item = found?;
-        if item.number == number {
-            nodes.push(read_item(&item)?)?;
+    while let Some(part) = parts.next() {
+        match read_entry(part) {
+            Ok(entry) => nodes.push(Node::new(entry))?,
+            Err(fault) => return Err(SchemaFault::Wire(fault)),
         }
     }
     Ok(nodes)

@@ -1,6 +1,6 @@
 ghost use Rattle.std.specs.Prelude.{◌≡◌, ◌++◌, ◌^◌, ◌<◌, negsuc, OnOk, IfOk, string_bytes};
 ghost use Rattle.lan_model.specs.Plain.{plain_type, plain_field, plain_fields};
-ghost use Rattle.lan_schema.specs.FieldTree.{name_of, list_name, logical_of, kind_of, field_messages, all_messages};
+ghost use Rattle.lan_schema.specs.FieldTree.{name_of, list_name, logical_of, type_number, field_messages, all_messages};
 
 use crate::entry::Entry;
 use crate::writing::write_entry;
@@ -55,8 +55,8 @@ pub fn logical_of(alloc: Global, ty: &Ty) -> Result<String, AllocError>
     }
 }
 
-fn kind_of(ty: &Ty) -> u64
-    ensures { result ≡ kind_of (plain_type ty.now) }
+fn type_number(ty: &Ty) -> u64
+    ensures { result ≡ type_number (plain_type ty.now) }
 {
     match ty {
         Ty::Struct(_) => 0,
@@ -87,18 +87,18 @@ fn write_field(
         nullable: field.nullable,
     };
     let mut message = Writer::new(alloc);
-    write_entry(kind_of(&field.ty), &entry, &mut message)?;
+    write_entry(type_number(&field.ty), &entry, &mut message)?;
     let message = message.finish();
     out.part(number, message.as_slice())?;
     match &field.ty {
         Ty::List(item) => write_field(alloc, item.get(), id, number, out),
-        Ty::Struct(members) => write_all(alloc, members.as_slice(), id, number, out),
+        Ty::Struct(members) => write_siblings(alloc, members.as_slice(), id, number, out),
         _ => Ok(()),
     }
 }
 
 #[cycle(write)]
-fn write_all(
+fn write_siblings(
     alloc: Global,
     fields: &[Field],
     parent: i32,
@@ -127,5 +127,5 @@ pub fn write_fields(
     requires fits { number < 2 ^ 29 }
     ensures { OnOk result (out.new ≡ out.old ++ all_messages number (negsuc 0) (plain_fields fields.now)) }
 {
-    write_all(alloc, fields.as_slice(), -1, number, out)
+    write_siblings(alloc, fields.as_slice(), -1, number, out)
 }

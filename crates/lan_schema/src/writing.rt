@@ -5,7 +5,7 @@ use crate::entry::Entry;
 use lan_wire::Writer;
 use std::alloc::AllocError;
 
-/// Writes the field's message; `kind` is its field 1, the Lance format's Field.Type. After a want of
+/// Writes the field's message; `kind` is its number 1, the Lance format's Field.Type. After a want of
 /// memory some of it may stand.
 pub fn write_entry(kind: u64, entry: &Entry<'_>, out: &mut Writer) -> Result<(), AllocError>
     ensures { OnOk result (out.new ≡ out.old ++ field_text kind (flat_of entry.now)) }

@@ -1,7 +1,7 @@
 -- The bytes of bools, one more at a time.
 use Rattle.std.proofs.Common.{◌≡◌, ℕ, zero, suc, ◌+◌, ◌*◌, List, [], ◌∷◌, ◌++◌, Bool, take, drop, refl, ap, ap₂, sym, ◌∙◌, append_assoc, arith}
 use Rattle.std.proofs.lemmas.List.{drop-drop, append-nil}
-use Rattle.lan_values.specs.Built.{byte_of, bool_bytes}
+use Rattle.lan_levels.specs.BuiltValues.{byte_of, bool_bytes}
 
 pub bool_more : (i : ℕ) (values : List Bool) → bool_bytes (i + 1) values ≡ bool_bytes i values ++ byte_of (take 8 (drop (8 * i) values)) ∷ []
 unfolding bool_bytes

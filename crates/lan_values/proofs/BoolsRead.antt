@@ -4,8 +4,8 @@ use Rattle.std.specs.Prelude.{slice_index}
 use Rattle.std.proofs.lemmas.List.{drop-drop, length-map}
 use Rattle.std.proofs.Math.Nat.{div-div-eq-div-mul}
 use Rattle.lan_levels.specs.PlainSlots.{bit}
-use Rattle.lan_values.specs.Values.{bools, value_at, bit_at, ValuesOf}
-use Rattle.lan_values.specs.Built.{digit_of, byte_of, bool_bytes}
+use Rattle.lan_levels.specs.Values.{bools, value_at, bit_at, ValuesOf}
+use Rattle.lan_levels.specs.BuiltValues.{digit_of, byte_of, bool_bytes}
 use Rattle.lan_values.proofs.Each.{each_map}
 
 lowest : (b : Bool) (n : ℕ) → ((digit_of b + 2 * n) / 2 ^ 0 % 2 == 1) ≡ b

@@ -6,8 +6,8 @@ use Rattle.std.specs.Int.{w32}
 use Rattle.std.specs.List.{concat}
 use Rattle.lan_bytes.specs.Numbers.{number_at}
 use Rattle.lan_levels.specs.PlainSlots.{bytes}
-use Rattle.lan_values.specs.Values.{variable, offset, value_at, IsVariable, ValuesOf}
-use Rattle.lan_values.specs.Built.{four_bytes, ends_bytes, variable_bytes}
+use Rattle.lan_levels.specs.Values.{variable, offset, value_at, IsVariable, ValuesOf}
+use Rattle.lan_levels.specs.BuiltValues.{four_bytes, ends_bytes, variable_bytes}
 use Rattle.lan_values.proofs.Each.{each_map}
 
 four_length : (n : ℕ) → length (four_bytes n) ≡ 4

@@ -3,7 +3,7 @@ use Rattle.std.proofs.Common.{◌≡◌, ℕ, zero, suc, ◌+◌, ◌*◌, ◌<�
 use Rattle.std.specs.Prelude.{slice_get, Some}
 use Rattle.std.proofs.Math.Nat.{mul-le-mul_left, mul-suc}
 use Rattle.lan_levels.specs.PlainSlots.{PlainPiece}
-use Rattle.lan_values.specs.Values.{Encoding, value_at, each_from, values_of, IsBuffer, ValuesOf}
+use Rattle.lan_levels.specs.Values.{Encoding, value_at, each_from, values_of, IsBuffer, ValuesOf}
 
 length-each_from : (f : ℕ → PlainPiece) (i n : ℕ) → length (each_from f i n) ≡ n
 unfolding each_from

@@ -2,7 +2,8 @@
 use Rattle.std.proofs.Common.{◌≡◌, ℕ, ◌+◌, ◌*◌, ◌<◌, ◌≤◌, List, [], ◌∷◌, ◌++◌, length, drop, get_or, sum, refl, ap, ap₂, sym, ◌∙◌, append_assoc}
 use Rattle.std.proofs.lemmas.List.{append-nil, at_drop_more, at_drop_all}
 use Rattle.std.specs.List.{concat}
-use Rattle.lan_values.specs.Built.{four_bytes, ends_bytes, variable_bytes, cut_by}
+use Rattle.lan_levels.specs.BuiltValues.{four_bytes, ends_bytes, variable_bytes}
+use Rattle.lan_values.specs.Cut.{cut_by}
 use Rattle.lan_values.proofs.Cuts.{sum-cons, lengths_cut, concat_cut, count_cut}
 
 ends_step : (end n : ℕ) (ns : List ℕ) → ends_bytes end (n ∷ ns) ≡ four_bytes (end + n) ++ ends_bytes (end + n) ns

@@ -5,7 +5,7 @@ use Rattle.std.proofs.lemmas.List.Elements.{All-head, All-tail}
 use Rattle.std.proofs.Math.Nat.{mul-suc}
 use Rattle.std.specs.List.{concat}
 use Rattle.lan_levels.specs.PlainSlots.{bytes}
-use Rattle.lan_values.specs.Values.{flat, value_at, ValuesOf}
+use Rattle.lan_levels.specs.Values.{flat, value_at, ValuesOf}
 use Rattle.lan_values.proofs.Each.{each_map}
 
 abbrev Wide : ℕ → List ℕ → Type 0

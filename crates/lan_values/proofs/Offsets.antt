@@ -1,6 +1,6 @@
 -- Offsets of which none falls.
 use Rattle.std.proofs.Common.{◌≡◌, ℕ, zero, suc, ◌+◌, ◌-◌, ◌*◌, ◌<◌, ◌≤◌, List, length, arith, subst}
-use Rattle.lan_values.specs.Values.{offset, NoneFalls, IsVariable}
+use Rattle.lan_levels.specs.Values.{offset, NoneFalls, IsVariable}
 
 rises_by : (all : List ℕ) (n i k : ℕ) → NoneFalls all n → i + k ≤ n → offset all i ≤ offset all (i + k)
 rises_by all n i zero h le = let e : i ≡ i + 0 = omega arith in subst (λ (j : ℕ). offset all i ≤ offset all j) e (omega arith)

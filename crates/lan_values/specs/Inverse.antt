@@ -2,8 +2,8 @@
 use Rattle.std.specs.Prelude.{◌≡◌, ℕ, ◌+◌, ◌*◌, ◌/◌, ◌^◌, ◌<◌, Bool, List, length, map, All}
 use Rattle.std.specs.List.{concat}
 use Rattle.lan_levels.specs.PlainSlots.{bit, bytes}
-use Rattle.lan_values.specs.Values.{flat, bools, variable, ValuesOf}
-use Rattle.lan_values.specs.Built.{bool_bytes, variable_bytes}
+use Rattle.lan_levels.specs.Values.{flat, bools, variable, ValuesOf}
+use Rattle.lan_levels.specs.BuiltValues.{bool_bytes, variable_bytes}
 
 -- the buffer that values of any length are put into is a buffer of these values
 abbrev pub VariableIsRead : Type 0

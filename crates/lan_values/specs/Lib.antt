@@ -1,3 +1,3 @@
-pub mod Built
-pub mod Values
+pub mod Refusals
+pub mod Cut
 pub mod Inverse

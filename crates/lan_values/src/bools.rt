@@ -1,7 +1,8 @@
 ghost use Rattle.std.specs.Prelude.{◌≡◌, ◌+◌, ◌/◌, ◌^◌, ◌++◌, ◌<◌, ◌≤◌, length, take, drop, slice_get, Some, IfOk, IfErr, OnOk, OnErr};
 ghost use Rattle.lan_levels.specs.PlainSlots.{plain_piece};
-ghost use Rattle.lan_values.specs.Values.{bools, IsBuffer, ValuesOf, Stands};
-ghost use Rattle.lan_values.specs.Built.{byte_of, bool_bytes};
+ghost use Rattle.lan_levels.specs.Values.{bools, IsBuffer, ValuesOf};
+ghost use Rattle.lan_values.specs.Refusals.{Stands};
+ghost use Rattle.lan_levels.specs.BuiltValues.{byte_of, bool_bytes};
 
 use crate::fault::ValueFault;
 use lan_bytes::{Out, View};
@@ -21,7 +22,7 @@ pub struct BoolView<'a> {
 impl<'a> Model for BoolView<'a> {
     ghost use Rattle.std.specs.Prelude.{◌^◌, ◌≤◌, List, length};
     ghost use Rattle.lan_levels.specs.PlainSlots.{PlainPiece};
-    ghost use Rattle.lan_values.specs.Values.{bools, values_of, IsBuffer};
+    ghost use Rattle.lan_levels.specs.Values.{bools, values_of, IsBuffer};
 
     ghost Value = { List PlainPiece };
 

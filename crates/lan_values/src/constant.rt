@@ -1,6 +1,6 @@
 ghost use Rattle.std.specs.Prelude.{◌≡◌, ◌<◌, length, slice_get, Some};
 ghost use Rattle.lan_levels.specs.PlainSlots.{plain_piece};
-ghost use Rattle.lan_values.specs.Values.{same_values};
+ghost use Rattle.lan_levels.specs.Values.{same_values};
 
 use lan_levels::Piece;
 use std::marker::Model;
@@ -15,7 +15,7 @@ pub struct ConstView<'a> {
 impl<'a> Model for ConstView<'a> {
     ghost use Rattle.std.specs.Prelude.{List};
     ghost use Rattle.lan_levels.specs.PlainSlots.{PlainPiece, plain_piece};
-    ghost use Rattle.lan_values.specs.Values.{same_values};
+    ghost use Rattle.lan_levels.specs.Values.{same_values};
 
     ghost Value = { List PlainPiece };
 

@@ -1,6 +1,7 @@
 ghost use Rattle.std.specs.Prelude.{◌≡◌, ◌++◌, ◌<◌, length, slice_get, Some, IfOk, IfErr, OnOk, OnErr};
 ghost use Rattle.lan_levels.specs.PlainSlots.{plain_piece};
-ghost use Rattle.lan_values.specs.Values.{flat, IsBuffer, ValuesOf, Stands};
+ghost use Rattle.lan_levels.specs.Values.{flat, IsBuffer, ValuesOf};
+ghost use Rattle.lan_values.specs.Refusals.{Stands};
 
 use crate::fault::ValueFault;
 use lan_bytes::{Out, View};
@@ -21,7 +22,7 @@ pub struct FlatView<'a> {
 impl<'a> Model for FlatView<'a> {
     ghost use Rattle.std.specs.Prelude.{◌^◌, ◌≤◌, List, length};
     ghost use Rattle.lan_levels.specs.PlainSlots.{PlainPiece};
-    ghost use Rattle.lan_values.specs.Values.{flat, values_of, IsBuffer};
+    ghost use Rattle.lan_levels.specs.Values.{flat, values_of, IsBuffer};
 
     ghost Value = { List PlainPiece };
 

@@ -1,6 +1,7 @@
 ghost use Rattle.std.specs.Prelude.{◌≡◌, [], ◌∷◌, ◌+◌, ◌*◌, ◌++◌, ◌^◌, ◌<◌, length, sum, OnOk, OnErr, IfOk};
 ghost use Rattle.std.specs.List.{concat};
-ghost use Rattle.lan_values.specs.Built.{variable_bytes, cut_by};
+ghost use Rattle.lan_levels.specs.BuiltValues.{variable_bytes};
+ghost use Rattle.lan_values.specs.Cut.{cut_by};
 
 use lan_bytes::Out;
 use lan_model::{Blob, List, Nums};
@@ -19,7 +20,7 @@ pub struct VarBuf {
 
 impl Model for VarBuf {
     ghost use Rattle.std.specs.Prelude.{List, ℕ, ◌≡◌, length, sum};
-    ghost use Rattle.lan_values.specs.Built.{cut_by};
+    ghost use Rattle.lan_values.specs.Cut.{cut_by};
 
     ghost Value = { List (List ℕ) };
 

@@ -1,6 +1,7 @@
 ghost use Rattle.std.specs.Prelude.{◌≡◌, ◌+◌, ◌*◌, ◌^◌, ◌<◌, ◌≤◌, length, slice_get, Some, IfOk, IfErr};
 ghost use Rattle.lan_levels.specs.PlainSlots.{plain_piece};
-ghost use Rattle.lan_values.specs.Values.{variable, offset, IsBuffer, ValuesOf, Stands};
+ghost use Rattle.lan_levels.specs.Values.{variable, offset, IsBuffer, ValuesOf};
+ghost use Rattle.lan_values.specs.Refusals.{Stands};
 
 use crate::fault::ValueFault;
 use lan_bytes::View;
@@ -20,7 +21,7 @@ pub struct VarView<'a> {
 impl<'a> Model for VarView<'a> {
     ghost use Rattle.std.specs.Prelude.{◌^◌, ◌≤◌, List, length};
     ghost use Rattle.lan_levels.specs.PlainSlots.{PlainPiece};
-    ghost use Rattle.lan_values.specs.Values.{variable, values_of, IsBuffer};
+    ghost use Rattle.lan_levels.specs.Values.{variable, values_of, IsBuffer};
 
     ghost Value = { List PlainPiece };
 
@@ -83,7 +84,7 @@ fn check_offsets(bytes: &[u8], n: u64) -> Result<(), ValueFault>
 }
 
 /// The offset of that number, counted from 0.
-#[tactic(auto, unfolding(crate::specs::Values::offset))]
+#[tactic(auto, unfolding(lan_levels::specs::Values::offset))]
 fn offset(bytes: &[u8], i: u64) -> u64
     requires { 4 * (i + 1) ≤ length bytes.now }
     ensures value { result ≡ offset bytes.now i }

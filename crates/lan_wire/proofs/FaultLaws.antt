@@ -5,11 +5,11 @@ use Rattle.std.specs.Int.{w32, w64, from_le_bytes}
 use Rattle.std.proofs.lemmas.Bool.{ltb-false, ltb-true, eqb-true}
 use Rattle.std.proofs.lemmas.Bool.Decides.{nat_tests}
 use Rattle.lan_wire.specs.declared.item.WireKind.{WireKind}
-use Rattle.lan_wire.specs.declared.item.WireKind.TheVariants.{Cut, TooLong, BadType, BadNumber, WrongType, Twice, Range, NotText}
+use Rattle.lan_wire.specs.declared.item.WireKind.TheVariants.{Cut, TooLong, BadType, BadNumber, WrongType, Twice, Range, NotText, Refused}
 use Rattle.lan_wire.specs.declared.item.Body.{Body}
 use Rattle.lan_wire.specs.declared.item.Body.TheVariants.{Num, Eight, Four, Part}
 use Rattle.lan_wire.specs.Reading.{◌>>=◌, varint_in, varint_at, part_at, body_at, item_at, place_of}
-use Rattle.lan_wire.specs.Faults.{IsCut, IsLong, BreaksVarint, Leads, BodyFault, Stands}
+use Rattle.lan_wire.specs.Faults.{IsCut, IsLong, BreaksVarint, Leads, BodyFault, BreaksItem}
 use Rattle.lan_wire.proofs.FrontVarint.{chosen, IsBytes, IsBytes-back}
 use Rattle.lan_wire.proofs.FrontItem.{number_takes, body_takes}
 
@@ -41,6 +41,7 @@ VarintFault more (WrongType n) bytes = ⊥
 VarintFault more (Twice n) bytes = ⊥
 VarintFault more (Range n) bytes = ⊥
 VarintFault more (NotText n) bytes = ⊥
+VarintFault more (Refused n) bytes = ⊥
 
 behind_byte : (more b : ℕ) (bs : List ℕ) (k : WireKind) → 128 ≤ b → VarintFault more k bs → VarintFault (suc more) k (b ∷ bs)
 behind_byte more b bs Cut large h = ((large, h.0), omega (arith, h.1))
@@ -51,6 +52,7 @@ behind_byte more b bs (WrongType n) large h = h
 behind_byte more b bs (Twice n) large h = h
 behind_byte more b bs (Range n) large h = h
 behind_byte more b bs (NotText n) large h = h
+behind_byte more b bs (Refused n) large h = h
 
 varint_err : (more : ℕ) (bytes : List ℕ) (k : WireKind) → varint_in more bytes ≡ failed k → VarintFault more k bytes
 unfolding varint_in
@@ -83,6 +85,7 @@ breaks bytes k full e = by k (number_err bytes k e) where
   by (Twice n) h = h
   by (Range n) h = h
   by (NotText n) h = h
+  by (Refused n) h = h
 
 leads : (bytes : List ℕ) (n : ℕ) (rest : List ℕ) → IsBytes bytes → varint_at bytes ≡ Ok (n, rest) → Leads bytes n rest
 leads bytes n rest fits e = let t = number_takes bytes n rest fits e in (t.front, t.parts, t.spelled)
@@ -98,6 +101,7 @@ num_fault wire bytes (WrongType n) w h = h
 num_fault wire bytes (Twice n) w h = h
 num_fault wire bytes (Range n) w h = h
 num_fault wire bytes (NotText n) w h = h
+num_fault wire bytes (Refused n) w h = h
 
 len_fault : (wire : ℕ) (bytes : List ℕ) (k : WireKind) → wire ≡ 2 → VarintFault 9 k bytes → BodyFault wire k bytes
 len_fault wire bytes Cut w h = inr (inr (inl (w, inl h)))
@@ -108,6 +112,7 @@ len_fault wire bytes (WrongType n) w h = h
 len_fault wire bytes (Twice n) w h = h
 len_fault wire bytes (Range n) w h = h
 len_fault wire bytes (NotText n) w h = h
+len_fault wire bytes (Refused n) w h = h
 
 part_err : (wire at : ℕ) (bytes : List ℕ) (k : WireKind) → IsBytes bytes → wire ≡ 2 → part_at at bytes ≡ failed k → BodyFault wire k bytes
 unfolding part_at
@@ -168,7 +173,7 @@ body_err wire at bytes k fits small e =
 
 -- ---- items
 
-of_key : (bytes : List ℕ) (k : WireKind) → BreaksVarint k bytes → Stands k bytes
+of_key : (bytes : List ℕ) (k : WireKind) → BreaksVarint k bytes → BreaksItem k bytes
 of_key bytes Cut h = inl h
 of_key bytes TooLong h = inl h
 of_key bytes BadType h = absurd h
@@ -177,8 +182,9 @@ of_key bytes (WrongType n) h = h
 of_key bytes (Twice n) h = h
 of_key bytes (Range n) h = h
 of_key bytes (NotText n) h = h
+of_key bytes (Refused n) h = h
 
-of_body : (bytes : List ℕ) (k : WireKind) (key : ℕ) (rest : List ℕ) → Leads bytes key rest → BodyFault (key % 8) k rest → Stands k bytes
+of_body : (bytes : List ℕ) (k : WireKind) (key : ℕ) (rest : List ℕ) → Leads bytes key rest → BodyFault (key % 8) k rest → BreaksItem k bytes
 of_body bytes Cut key rest l h = inr (key, rest, l, h)
 of_body bytes TooLong key rest l h = inr (key, rest, l, h)
 of_body bytes BadType key rest l h = (key, rest, l, h)
@@ -187,6 +193,7 @@ of_body bytes (WrongType n) key rest l h = h
 of_body bytes (Twice n) key rest l h = h
 of_body bytes (Range n) key rest l h = h
 of_body bytes (NotText n) key rest l h = h
+of_body bytes (Refused n) key rest l h = h
 
 out_of_range : (n : ℕ) → (eqb n 0 || ltb 536870911 n) ≡ true → (n ≡ 0) ⊎ (536870911 < n)
 out_of_range n h = by (eqb n 0) refl where
@@ -194,7 +201,7 @@ out_of_range n h = by (eqb n 0) refl where
   by true e = inl (eqb-true n 0 e)
   by false e = inr (grind (arith, nat_tests, e, h))
 
-pub stands : (at : ℕ) (bytes : List ℕ) (k : WireKind) → IsBytes bytes → bytes ≢ [] → item_at at bytes ≡ failed k → Stands k bytes
+pub stands : (at : ℕ) (bytes : List ℕ) (k : WireKind) → IsBytes bytes → bytes ≢ [] → item_at at bytes ≡ failed k → BreaksItem k bytes
 unfolding item_at
 stands at bytes k fits full e =
     elim (bind_err (varint_at bytes) (λ key. body_at (key.0 % 8) (place_of at bytes key.1) key.1 >>= λ body. cond (eqb (key.0 / 8) 0 || ltb 536870911 (key.0 / 8)) (Err BadNumber) (Ok (record { number = key.0 / 8; at = at; body = body.0 }, body.1))) k e) [
@@ -209,6 +216,6 @@ stands at bytes k fits full e =
             | inr u ↦
                 let g = guard_err (eqb (key / 8) 0 || ltb 536870911 (key / 8)) BadNumber k (record { number = key / 8; at = at; body = u.0.0 }, u.0.1) u.2 in
                 let b = body_takes (key % 8) (place_of at bytes rest) rest u.0 rest_fits u.1 in
-                subst (λ (j : WireKind). Stands j bytes) g.1 (key, rest, l, ((place_of at bytes rest, u.0.0, b.front, u.0.1, b.parts, b.is_wire, b.spelled), out_of_range (key / 8) g.0))
+                subst (λ (j : WireKind). BreaksItem j bytes) g.1 (key, rest, l, ((place_of at bytes rest, u.0.0, b.front, u.0.1, b.parts, b.is_wire, b.spelled), out_of_range (key / 8) g.0))
           ]
     ]

@@ -4,12 +4,12 @@ use Rattle.std.specs.Prelude.{◌||◌}
 use Rattle.std.proofs.lemmas.Bool.{le-ltb, lt-ltb}
 use Rattle.std.proofs.lemmas.Bool.Decides.{nat_tests}
 use Rattle.lan_wire.specs.declared.item.WireKind.{WireKind}
-use Rattle.lan_wire.specs.declared.item.WireKind.TheVariants.{Cut, TooLong, BadType, BadNumber, WrongType, Twice, Range, NotText}
+use Rattle.lan_wire.specs.declared.item.WireKind.TheVariants.{Cut, TooLong, BadType, BadNumber, WrongType, Twice, Range, NotText, Refused}
 use Rattle.lan_wire.specs.declared.item.Body.{Body}
 use Rattle.lan_wire.specs.declared.item.Item.{Item}
 use Rattle.lan_wire.specs.Reading.{varint_in, varint_at, part_at, body_at, item_at, place_of}
 use Rattle.lan_wire.specs.Spells.{IsGroups, wire_of, SpellsBody, Spells, Items}
-use Rattle.lan_wire.specs.Faults.{NeverEnds, CutsVarint, LongVarint, BreaksVarint, Leads, LacksPart, LacksBody, HasBody, Stands}
+use Rattle.lan_wire.specs.Faults.{NeverEnds, CutsVarint, LongVarint, BreaksVarint, Leads, LacksPart, LacksBody, HasBody, BreaksItem}
 use Rattle.lan_wire.proofs.FrontItem.{number_again, body_again, item_again}
 use Rattle.lan_wire.proofs.SpellingLaws.{moved_body, wire_moved, body_moved}
 use Rattle.lan_wire.proofs.FaultLaws.{failed, err_is, ok_not_err}
@@ -44,6 +44,7 @@ breaks_fails bytes (WrongType n) h = absurd h
 breaks_fails bytes (Twice n) h = absurd h
 breaks_fails bytes (Range n) h = absurd h
 breaks_fails bytes (NotText n) h = absurd h
+breaks_fails bytes (Refused n) h = absurd h
 
 pub breaks_something : (k : WireKind) → BreaksVarint k [] → ⊥
 breaks_something Cut h = h.0 refl
@@ -57,6 +58,7 @@ breaks_something (WrongType n) h = h
 breaks_something (Twice n) h = h
 breaks_something (Range n) h = h
 breaks_something (NotText n) h = h
+breaks_something (Refused n) h = h
 
 pub led : (bytes : List ℕ) (n : ℕ) (rest : List ℕ) → Leads bytes n rest → varint_at bytes ≡ Ok (n, rest)
 led bytes n rest l = ap varint_at l.1 ∙ number_again l.0 n rest l.2
@@ -159,7 +161,7 @@ number_fails : (at : ℕ) (bytes : List ℕ) (key : ℕ) (rest : List ℕ) (x : 
 unfolding item_at
 number_fails at bytes key rest x l h out = rw (l, h, out) refl
 
-pub fails : (at : ℕ) (bytes : List ℕ) (k : WireKind) → Stands k bytes → item_at at bytes ≡ failed k
+pub fails : (at : ℕ) (bytes : List ℕ) (k : WireKind) → BreaksItem k bytes → item_at at bytes ≡ failed k
 fails at bytes Cut s = elim s [
   | inl h ↦ key_fails at bytes Cut (cut_number bytes h.1)
   | inr h ↦ behind_fails at bytes Cut h.0 h.1 (led bytes h.0 h.1 h.2) (lacking (h.0 % 8) (place_of at bytes h.1) h.1 h.3)
@@ -176,6 +178,7 @@ fails at bytes (WrongType n) s = absurd s
 fails at bytes (Twice n) s = absurd s
 fails at bytes (Range n) s = absurd s
 fails at bytes (NotText n) s = absurd s
+fails at bytes (Refused n) s = absurd s
 
 -- no fault at the end of a message
 not_led : (bytes : List ℕ) (n : ℕ) (rest : List ℕ) → Leads bytes n rest → bytes ≡ [] → ⊥
@@ -184,7 +187,7 @@ not_led bytes n rest l e = nothing l.0 rest n l.2.groups (sym e ∙ l.1) where
   nothing [] rest n g e = g
   nothing (b ∷ bs) rest n g e = absurd cc
 
-stands_somewhere : (bytes : List ℕ) (k : WireKind) → Stands k bytes → bytes ≡ [] → ⊥
+stands_somewhere : (bytes : List ℕ) (k : WireKind) → BreaksItem k bytes → bytes ≡ [] → ⊥
 stands_somewhere bytes Cut s e = elim s [
   | inl h ↦ h.0 e
   | inr h ↦ not_led bytes h.0 h.1 h.2 e
@@ -199,16 +202,17 @@ stands_somewhere bytes (WrongType n) s e = s
 stands_somewhere bytes (Twice n) s e = s
 stands_somewhere bytes (Range n) s e = s
 stands_somewhere bytes (NotText n) s e = s
+stands_somewhere bytes (Refused n) s e = s
 
 -- one fault at most
-pub one_fault : (bytes : List ℕ) (j k : WireKind) → Stands j bytes → Stands k bytes → j ≡ k
+pub one_fault : (bytes : List ℕ) (j k : WireKind) → BreaksItem j bytes → BreaksItem k bytes → j ≡ k
 one_fault bytes j k p q = err_is {A = Item × List ℕ} j k (sym (fails 0 bytes j p) ∙ fails 0 bytes k q)
 
 -- and no item beside it
-pub no_item : (bytes front rest : List ℕ) (k : WireKind) (item : Item) → Stands k bytes → Spells front item → bytes ≡ front ++ rest → ⊥
+pub no_item : (bytes front rest : List ℕ) (k : WireKind) (item : Item) → BreaksItem k bytes → Spells front item → bytes ≡ front ++ rest → ⊥
 no_item bytes front rest k item s p e = ok_not_err (item, rest) k (sym (item_again front rest item p) ∙ ap (item_at item.at) (sym e) ∙ fails item.at bytes k s)
 
 -- and no list of items
-pub no_items : (at : ℕ) (bytes : List ℕ) (k : WireKind) (items : List Item) → Stands k bytes → Items at bytes items → ⊥
+pub no_items : (at : ℕ) (bytes : List ℕ) (k : WireKind) (items : List Item) → BreaksItem k bytes → Items at bytes items → ⊥
 no_items at bytes k [] s p = stands_somewhere bytes k s p
 no_items at bytes k (x ∷ xs) s p = no_item bytes p.0 p.1 k x s p.3 p.2

@@ -1,11 +1,13 @@
 -- One byte of a varint at a time.
-use Rattle.std.proofs.Common.{◌≡◌, inl, inr, refl, ap, sym, ◌∙◌, ℕ, zero, suc, ◌+◌, ◌*◌, ◌/◌, ◌%◌, ◌^◌, ◌<◌, ◌≤◌, List, [], ◌∷◌, length, length-append, arith}
+use Rattle.std.proofs.Common.{◌≡◌, inl, inr, refl, ap, sym, ◌∙◌, ℕ, zero, suc, ◌+◌, ◌*◌, ◌/◌, ◌%◌, ◌^◌, ◌<◌, ◌≤◌, List, [], ◌∷◌, ◌++◌, length, length-append, drop, get_or, map, pos, arith}
+use Rattle.std.specs.Prelude.{ℤ}
+use Rattle.std.proofs.lemmas.List.{drop_more}
 use Rattle.std.proofs.Math.Nat.{pow-suc}
 use Rattle.std.proofs.lemmas.Bool.{cases_lt}
 use Rattle.std.proofs.lemmas.Bool.Decides.{nat_tests}
 use Rattle.std.specs.List.{flat_map}
 use Rattle.std.proofs.lemmas.List.Concat.{flat_map-cons}
-use Rattle.lan_wire.specs.Spelling.{varint_within, varint}
+use Rattle.lan_wire.specs.Spelling.{varint_within, varint, two_complement}
 
 pub varint_done : (k n : ℕ) → n < 128 → varint_within k n ≡ n ∷ []
 unfolding varint_within
@@ -58,5 +60,11 @@ length-varint n = length-varint_within 9 n
 pub length-flat_map : (ns : List ℕ) → length (flat_map varint ns) ≤ 10 * length ns
 length-flat_map [] = omega arith
 length-flat_map (n ∷ ns) = omega (arith, ap length (flat_map-cons varint n ns), length-append (varint n) (flat_map varint ns), length-varint n, length-flat_map ns)
+
+-- numbers with a sign from a place on
+pub signed_drop : (zs : List ℤ) (i : ℕ) → i < length zs → flat_map varint (map two_complement (drop i zs)) ≡ varint (two_complement (get_or zs i (pos 0))) ++ flat_map varint (map two_complement (drop (i + 1) zs))
+signed_drop zs i lt =
+    ap (λ (ys : List ℤ). flat_map varint (map two_complement ys)) (drop_more zs i (pos 0) lt)
+    ∙ flat_map-cons varint (two_complement (get_or zs i (pos 0))) (map two_complement (drop (i + 1) zs))
 
 pub ruleset varint_lengths = (length-varint_last, length-varint_more, length-varint)

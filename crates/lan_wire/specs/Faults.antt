@@ -60,9 +60,9 @@ abbrev pub BehindKey : List ℕ → (ℕ → List ℕ → Type 0) → Type 0
 BehindKey bytes Fault = (key : ℕ) × (rest : List ℕ) × Leads bytes key rest × Fault key rest
 
 -- an item begins at the front of the bytes, and has this fault
-abbrev pub Stands : WireKind → List ℕ → Type 0
-Stands Cut bytes = BreaksVarint Cut bytes ⊎ BehindKey bytes (λ key rest. LacksBody (key % 8) rest)
-Stands TooLong bytes = BreaksVarint TooLong bytes ⊎ BehindKey bytes (λ key rest. ((key % 8 ≡ 0) ⊎ (key % 8 ≡ 2)) × LongVarint rest)
-Stands BadType bytes = BehindKey bytes (λ key rest. (key % 8 ≡ 3) ⊎ (key % 8 ≡ 4) ⊎ (key % 8 ≡ 6) ⊎ (key % 8 ≡ 7))
-Stands BadNumber bytes = BehindKey bytes (λ key rest. HasBody (key % 8) rest × ((key / 8 ≡ 0) ⊎ (536870911 < key / 8)))
-Stands _ bytes = ⊥
+abbrev pub BreaksItem : WireKind → List ℕ → Type 0
+BreaksItem Cut bytes = BreaksVarint Cut bytes ⊎ BehindKey bytes (λ key rest. LacksBody (key % 8) rest)
+BreaksItem TooLong bytes = BreaksVarint TooLong bytes ⊎ BehindKey bytes (λ key rest. ((key % 8 ≡ 0) ⊎ (key % 8 ≡ 2)) × LongVarint rest)
+BreaksItem BadType bytes = BehindKey bytes (λ key rest. (key % 8 ≡ 3) ⊎ (key % 8 ≡ 4) ⊎ (key % 8 ≡ 6) ⊎ (key % 8 ≡ 7))
+BreaksItem BadNumber bytes = BehindKey bytes (λ key rest. HasBody (key % 8) rest × ((key / 8 ≡ 0) ⊎ (536870911 < key / 8)))
+BreaksItem _ bytes = ⊥

@@ -27,22 +27,22 @@ abbrev pub out_of_range : Item → WireFault
 out_of_range item = record { kind = Range item.number; at = item.at }
 
 -- the number, or the fault that stands in for it
-abbrev pub number_in : WireFault → Body → Result ℕ WireFault
-number_in wrong (Num n) = Ok n
-number_in wrong (Eight n) = Err wrong
-number_in wrong (Four n) = Err wrong
-number_in wrong (Part part) = Err wrong
+abbrev pub num_or : WireFault → Body → Result ℕ WireFault
+num_or wrong (Num n) = Ok n
+num_or wrong (Eight n) = Err wrong
+num_or wrong (Four n) = Err wrong
+num_or wrong (Part part) = Err wrong
 
 -- the bytes, or the fault that stands in for them
-abbrev pub part_in : WireFault → Body → Result Placed WireFault
-part_in wrong (Num n) = Err wrong
-part_in wrong (Eight n) = Err wrong
-part_in wrong (Four n) = Err wrong
-part_in wrong (Part part) = Ok part
+abbrev pub part_or : WireFault → Body → Result Placed WireFault
+part_or wrong (Num n) = Err wrong
+part_or wrong (Eight n) = Err wrong
+part_or wrong (Four n) = Err wrong
+part_or wrong (Part part) = Ok part
 
 -- a number of 64 bits
 abbrev pub num_of : Item → Result ℕ WireFault
-num_of item = number_in (wrong_type item) item.body
+num_of item = num_or (wrong_type item) item.body
 
 -- a number of 32 bits
 abbrev pub small_of : Item → Result ℕ WireFault
@@ -58,7 +58,7 @@ flag_of item = then_read (λ n. Ok (not (nat_eq n 0))) (num_of item)
 
 -- bytes, or a message
 abbrev pub placed_of : Item → Result Placed WireFault
-placed_of item = part_in (wrong_type item) item.body
+placed_of item = part_or (wrong_type item) item.body
 
 -- the bytes of a text
 abbrev pub text_of : Item → Result (List ℕ) WireFault

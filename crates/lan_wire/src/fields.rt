@@ -1,6 +1,6 @@
 ghost use Rattle.std.specs.Prelude.{◌≡◌, ◌<◌, [], length, IsNone, IfSome, IfNone, IfOk, IfErr};
 ghost use Rattle.lan_bytes.specs.Placed.{Placed};
-ghost use Rattle.lan_wire.specs.Faults.{Stands};
+ghost use Rattle.lan_wire.specs.Faults.{BreaksItem};
 ghost use Rattle.lan_wire.specs.Spells.{Begins};
 
 use crate::item::{Item, WireFault};
@@ -47,7 +47,7 @@ impl<'a> Fields<'a> {
         ensures item { IfSome result (λ found. IfOk found (λ item. Begins self.old item self.new)) }
 
         // The fault stands at the front, which is the key's place, and nothing is left.
-        ensures fault { IfSome result (λ found. IfErr found (λ fault. Stands fault.kind self.old.bytes × (fault.at ≡ self.old.base))) }
+        ensures fault { IfSome result (λ found. IfErr found (λ fault. BreaksItem fault.kind self.old.bytes × (fault.at ≡ self.old.base))) }
         ensures after_fault { IfSome result (λ found. IfErr found (λ _. self.new ≡ record self.old { bytes = [] })) }
         ensures shorter { IfSome result (λ _. length self.new.bytes < length self.old.bytes) }
     {

@@ -3,18 +3,16 @@
 
 mod fields;
 mod item;
-mod laws;
+mod judging;
+pub mod laws;
 mod readers;
 mod reading;
-#[cfg(test)]
-mod tests;
+mod rules;
+mod said;
 mod writer;
 
 pub use fields::Fields;
 pub use item::{Body, Item, NumsFault, WireFault, WireKind};
-pub use laws::{
-    faults_exclude, items_are_unique, numbers_are_unique, one_spelling_one_item,
-    spellings_are_prefix_free, written_lists_are_read, written_numbers_are_read,
-    written_parts_are_read, written_signed_numbers_are_read,
-};
+pub use rules::{Kind, Rule};
+pub use said::{Parts, Said, SaidNumbers};
 pub use writer::Writer;

@@ -1,7 +1,7 @@
 ghost use Rattle.std.specs.Prelude.{◌≡◌, ◌+◌, ◌-◌, ◌*◌, ◌^◌, ◌<◌, ◌≤◌, [], ◌∷◌, length, IfOk, IfErr};
 ghost use Rattle.lan_wire.specs.Reading.{Gives, above, varint_in, varint_at, part_at, body_at, item_at, place_of};
 ghost use Rattle.lan_bytes.specs.Placed.{Placed};
-ghost use Rattle.lan_wire.specs.Faults.{Stands};
+ghost use Rattle.lan_wire.specs.Faults.{BreaksItem};
 ghost use Rattle.lan_wire.specs.Spells.{Begins};
 
 use crate::item::{Body, Item, WireKind};
@@ -131,7 +131,7 @@ fn item_at<'a>(at: u64, bytes: &'a [u8]) -> Result<(Item<'a>, &'a [u8]), WireKin
 pub(crate) fn first_item<'a>(at: u64, bytes: &'a [u8]) -> Result<(Item<'a>, &'a [u8]), WireKind>
     requires full { 0 < length bytes.now }
     requires within { at + length bytes.now ≤ 2 ^ 63 }
-    ensures stands { IfErr result (λ kind. Stands kind bytes.now) }
+    ensures stands { IfErr result (λ kind. BreaksItem kind bytes.now) }
     ensures begins { IfOk result (λ x. Begins (record { base = at; bytes = bytes.now }) x.0 (record { base = place_of at bytes.now x.1.now; bytes = x.1.now })) }
     ensures shorter { IfOk result (λ x. length x.1.now < length bytes.now) }
 {

@@ -1,4 +1,4 @@
-ghost use Rattle.std.specs.Prelude.{◌≡◌, ◌+◌, ◌*◌, ◌^◌, ◌<◌, ◌≤◌, ◌++◌, [], length, take, flat_map, OnOk, OnErr};
+ghost use Rattle.std.specs.Prelude.{◌≡◌, ◌+◌, ◌*◌, ◌^◌, ◌<◌, ◌≤◌, ◌++◌, [], length, take, map, flat_map, OnOk, OnErr, IfSome};
 ghost use Rattle.lan_wire.specs.Spelling.{varint, key, num_item, part_item, num_field, part_field, two_complement, packed_field};
 
 use std::alloc::{AllocError, Global};
@@ -35,6 +35,13 @@ fn varint_len(value: u64) -> u64
     len
 }
 
+// The 64 bits of a number with a sign.
+fn two_complement(value: i32) -> u64
+    ensures { result ≡ two_complement value }
+{
+    i64::from(value).cast_unsigned()
+}
+
 // How many bytes the varints of these numbers have together.
 #[tactic(auto, using(crate::proofs::Varints::varint_lengths))]
 fn packed_len(values: &[u64]) -> u64
@@ -45,6 +52,17 @@ fn packed_len(values: &[u64]) -> u64
         len += varint_len(*value);
     }
     len
+}
+
+// How many bytes the varints of these numbers with a sign have together, none where over 2^64.
+fn signed_packed_len(values: &[i32]) -> Option<u64>
+    ensures { IfSome result (λ len. len ≡ length (flat_map varint (map two_complement values.now))) }
+{
+    let mut len: u64 = 0;
+    for value in values {
+        len = len.checked_add(varint_len(two_complement(*value)))?;
+    }
+    Some(len)
 }
 
 // Appends a varint. After a want of memory a part of it may stand.
@@ -69,6 +87,17 @@ fn push_varints(bytes: &mut Vec<u8>, values: &[u64]) -> Result<(), AllocError>
 {
     for value in values {
         push_varint(bytes, *value)?;
+    }
+    Ok(())
+}
+
+// Appends varints of numbers with a sign. After a want of memory a part of them may stand.
+fn push_signed_varints(bytes: &mut Vec<u8>, values: &[i32]) -> Result<(), AllocError>
+    ensures ok { OnOk result (bytes.new.items ≡ bytes.old.items ++ flat_map varint (map two_complement values.now)) }
+    ensures front { take (length bytes.old.items) bytes.new.items ≡ bytes.old.items }
+{
+    for value in values {
+        push_varint(bytes, two_complement(*value))?;
     }
     Ok(())
 }
@@ -103,6 +132,18 @@ fn push_packed(bytes: &mut Vec<u8>, number: u32, values: &[u64]) -> Result<(), A
     push_varint(bytes, u64::from(number) * 8 + 2)?;
     push_varint(bytes, packed_len(values))?;
     push_varints(bytes, values)
+}
+
+// Appends a key, and numbers with a sign behind their length. After a want of memory a part of it may stand.
+fn push_signed_packed(bytes: &mut Vec<u8>, number: u32, values: &[i32]) -> Result<(), AllocError>
+    requires { number < 2 ^ 29 }
+    ensures ok { OnOk result (bytes.new.items ≡ bytes.old.items ++ part_item number (flat_map varint (map two_complement values.now))) }
+    ensures front { take (length bytes.old.items) bytes.new.items ≡ bytes.old.items }
+{
+    let len = signed_packed_len(values).ok_or(AllocError)?;
+    push_varint(bytes, u64::from(number) * 8 + 2)?;
+    push_varint(bytes, len)?;
+    push_signed_varints(bytes, values)
 }
 
 impl Writer {
@@ -151,7 +192,7 @@ impl Writer {
         ensures ok { OnOk result (self.new ≡ self.old ++ num_field number (two_complement value)) }
         ensures err { OnErr result (self.new ≡ self.old) }
     {
-        self.num(number, i64::from(value).cast_unsigned())
+        self.num(number, two_complement(value))
     }
 
     /// A text, left out where it is empty.
@@ -194,6 +235,25 @@ impl Writer {
         }
         let len = self.bytes.len();
         let answer = push_packed(&mut self.bytes, number, values);
+        if answer.is_err() {
+            self.bytes.truncate(len);
+        }
+        answer
+    }
+
+    /// Numbers of 32 bits with a sign packed into one part, left out where there are none. Each is spelled as
+    /// `signed` spells it.
+    pub fn packed_signed(&mut self, number: u32, values: &[i32]) -> Result<(), AllocError>
+        requires numbered { 0 < number }
+        requires fits { number < 2 ^ 29 }
+        ensures ok { OnOk result (self.new ≡ self.old ++ packed_field number (map two_complement values.now)) }
+        ensures err { OnErr result (self.new ≡ self.old) }
+    {
+        if values.is_empty() {
+            return Ok(());
+        }
+        let len = self.bytes.len();
+        let answer = push_signed_packed(&mut self.bytes, number, values);
         if answer.is_err() {
             self.bytes.truncate(len);
         }

@@ -8,8 +8,8 @@ use Rattle.lan_levels.specs.declared.slot.State.{State}
 use Rattle.lan_levels.specs.declared.slot.State.TheVariants as state
 use Rattle.lan_levels.specs.Codes.{code_states, states_from, states_of}
 use Rattle.lan_levels.specs.SlotsOf.{lists_in}
-use Rattle.lan_zip.specs.declared.form.ValueForm.{ValueForm}
-use Rattle.lan_zip.specs.Form.{PlainForm, digits, form_for}
+use Rattle.lan_levels.specs.declared.shape.ValueForm.{ValueForm}
+use Rattle.lan_levels.specs.ZipForm.{PlainForm, digits, word_size, form_for}
 use Rattle.lan_zip.proofs.Words.{word_room}
 
 -- how many digits a number has, and that it has no more
@@ -29,6 +29,20 @@ digits_are n lt =
     (λ _. either_way (ltb n 8) n 3 _ (λ h. let k = ltb-true n 8 h in record { room = omega arith; few = omega arith })
     (λ _. either_way (ltb n 16) n 4 _ (λ h. let k = ltb-true n 16 h in record { room = omega arith; few = omega arith })
     (λ _. either_way (ltb n 32) n 5 6 (λ h. let k = ltb-true n 32 h in record { room = omega arith; few = omega arith }) (λ _. record { room = omega arith; few = omega arith }))))))
+
+-- a control word has at most two bytes, and room for its bits
+record Word (bits size : ℕ) : Type 0 where
+  few : size ≤ 2
+  room : bits ≤ 16 → bits ≤ 8 * size
+
+word_way : (b : Bool) (n x y : ℕ) → (b ≡ true → Word n x) → (b ≡ false → Word n y) → Word n (cond b x y)
+word_way true n x y f g = f refl
+word_way false n x y f g = g refl
+
+word_is : (n : ℕ) → Word n (word_size n)
+word_is n =
+    word_way (ltb n 1) n 0 _ (λ h. let k = ltb-true n 1 h in record { few = omega arith; room = λ _. omega arith })
+    (λ _. word_way (ltb n 9) n 1 2 (λ h. let k = ltb-true n 9 h in record { few = omega arith; room = λ _. omega arith }) (λ _. record { few = omega arith; room = λ le. omega arith }))
 
 few_lists : (layers : List Layer) → lists_in layers ≤ length layers
 few_lists [] = omega arith
@@ -64,8 +78,10 @@ form_roomy codes layers v few short =
     let high_few = high.few in
     let low_few = low.few in
     let low_room = low.room in
+    let size = word_is (digits f.lists + f.bits) in
+    let wide = size.room (omega arith) in
     record {
-      word = omega arith;
+      word = size.few;
       below = omega arith;
       room = λ rep def le lt. word_room (digits f.lists) f.bits f.word rep def f.lists (omega arith) high.room le lt;
     }

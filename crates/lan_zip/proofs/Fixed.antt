@@ -7,12 +7,14 @@ use Rattle.std.proofs.Math.Nat.{div-mul-le_self, lt-div-mul-add}
 use Rattle.lan_levels.specs.declared.slot.State.{State}
 use Rattle.lan_levels.specs.declared.slot.State.TheVariants as state
 use Rattle.lan_levels.specs.PlainSlots.{PlainSlot, bytes}
-use Rattle.lan_zip.specs.declared.form.ValueForm.{ValueForm}
-use Rattle.lan_zip.specs.declared.form.ValueForm.TheVariants as value
-use Rattle.lan_zip.specs.Form.{PlainForm}
-use Rattle.lan_zip.specs.Spelled.{cut, level, slot, sized_part, value_part, kept, with_value, first_slot, spelled, Listed, More, StopsAt}
-use Rattle.lan_zip.proofs.FirstSlot.{wordless}
-use Rattle.lan_zip.proofs.Walks.{spelled_none, put_last, count_slots}
+use Rattle.lan_levels.specs.declared.shape.ValueForm.{ValueForm}
+use Rattle.lan_levels.specs.declared.shape.ValueForm.TheVariants as value
+use Rattle.lan_levels.specs.ZipForm.{PlainForm}
+use Rattle.lan_levels.specs.ZipSlots.{cut, level, slot, sized_part, value_part, kept, with_value, first_slot, spelled}
+use Rattle.lan_zip.specs.Walk.{Listed}
+use Rattle.lan_zip.specs.Refusals.{More, StopsAt}
+use Rattle.lan_levels.proofs.ZipFirst.{wordless}
+use Rattle.lan_levels.proofs.ZipWalks.{spelled_none, put_last, count_slots}
 use Rattle.lan_zip.proofs.Rows.{Walked, single_rows, stops_single}
 
 -- the slots are values of so many bytes, and nothing else

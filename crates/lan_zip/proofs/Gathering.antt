@@ -9,9 +9,10 @@ use Rattle.lan_model.specs.declared.tree.Layer.{Layer}
 use Rattle.lan_levels.specs.declared.slot.State.{State}
 use Rattle.lan_levels.specs.declared.slot.State.TheVariants as state
 use Rattle.lan_levels.specs.Codes.{IsBare}
-use Rattle.lan_zip.specs.Form.{PlainForm}
-use Rattle.lan_zip.specs.Spelled.{is_bare}
-use Rattle.lan_zip.specs.Written.{word_bytes, value_bytes, slot_bytes, SlotIs, PartsAre, begins, row_starts, Gathered, Appends, CanStand}
+use Rattle.lan_levels.specs.ZipForm.{PlainForm}
+use Rattle.lan_levels.specs.ZipSlots.{is_bare}
+use Rattle.lan_levels.specs.ZipWritten.{value_bytes, slot_bytes, SlotIs, PartsAre, begins, row_starts, Gathered, CanStand}
+use Rattle.lan_zip.specs.Building.{Appends}
 
 concat_last : (ps : List (List ℕ)) (p : List ℕ) → concat (ps ++ p ∷ []) ≡ concat ps ++ p
 concat_last [] p = append-nil p
@@ -94,12 +95,12 @@ bare_is layers (state.Null k) b h = ltb_from_iff h
 bare_is layers (state.Empty k) b h = ltb_from_iff h
 
 pub slot_appended : (f : PlainForm) (s : PlainSlot) (def n : ℕ) (b : Bool) (old word new : List ℕ) → slice_get f.states def ≡ Some s.state → n ≡ s.rep * 2 ^ f.bits + def → b ≡ is_bare f.layers s.state
-    → word ≡ old ++ word_bytes f.word n → new ≡ word ++ cond b [] (value_bytes f.value s.value) → Appends f s old new
+    → word ≡ old ++ low_first f.word n → new ≡ word ++ cond b [] (value_bytes f.value s.value) → Appends f s old new
 slot_appended f s def n b old word new h e bare w v = record {
   part = slot_bytes f def s;
   is = record { def = def; numbered = h; is = refl };
   grown =
       v
-      ∙ ap₂ (λ (bs : List ℕ) (c : Bool). bs ++ cond c [] (value_bytes f.value s.value)) (w ∙ ap (λ (k : ℕ). old ++ word_bytes f.word k) e) bare
-      ∙ append_assoc old (word_bytes f.word (s.rep * 2 ^ f.bits + def)) (cond (is_bare f.layers s.state) [] (value_bytes f.value s.value));
+      ∙ ap₂ (λ (bs : List ℕ) (c : Bool). bs ++ cond c [] (value_bytes f.value s.value)) (w ∙ ap (λ (k : ℕ). old ++ low_first f.word k) e) bare
+      ∙ append_assoc old (low_first f.word (s.rep * 2 ^ f.bits + def)) (cond (is_bare f.layers s.state) [] (value_bytes f.value s.value));
 }

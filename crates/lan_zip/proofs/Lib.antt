@@ -1,10 +1,8 @@
 pub mod Digits
-pub mod FirstSlot
 pub mod Fixed
 pub mod Gathering
 pub mod Inverse
 pub mod Rows
-pub mod Walks
 pub mod Words
 pub mod Standing
 pub mod Paths

@@ -3,10 +3,12 @@ use Rattle.std.proofs.Common.{◌≡◌, ◌≢◌, ◌==◌, ◌⊎◌, inl, in
 use Rattle.lan_levels.specs.PlainSlots.{PlainSlot}
 use Rattle.lan_zip.specs.declared.fault.ZipFault.{ZipFault}
 use Rattle.lan_zip.specs.declared.fault.ZipFault.TheVariants as fault
-use Rattle.lan_zip.specs.Form.{PlainForm}
-use Rattle.lan_zip.specs.Spelled.{Read, cut, level, slot, first_slot, Part, spelled, starts, FirstBegins, Begins, AreRows, IsZip, Listed, OneFollows, StopsAt, OtherRows, Stands, Whole, slots_in}
-use Rattle.lan_zip.proofs.FirstSlot.{first_nil}
-use Rattle.lan_zip.proofs.Walks.{spelled_none, spelled_more, Opened, opened, count_slots, no_more}
+use Rattle.lan_levels.specs.ZipForm.{PlainForm}
+use Rattle.lan_levels.specs.ZipSlots.{Read, cut, level, slot, first_slot, Part, spelled, starts, FirstBegins, AreRows, IsZip}
+use Rattle.lan_zip.specs.Walk.{Begins, Listed, Whole, slots_in}
+use Rattle.lan_zip.specs.Refusals.{OneFollows, StopsAt, OtherRows, Stands}
+use Rattle.lan_levels.proofs.ZipFirst.{first_nil}
+use Rattle.lan_levels.proofs.ZipWalks.{spelled_none, spelled_more, Opened, opened, count_slots, no_more}
 
 -- slots that are spelled so far
 pub record Walked (f : PlainForm) (n : ℕ) (all rest : List ℕ) : Type 0 where

@@ -17,10 +17,11 @@ use Rattle.lan_levels.specs.PlainSlots.{PlainPiece, nothing, PlainSlot}
 use Rattle.lan_levels.specs.SlotsOf.{piece_of, lists_in, at_place, flat, slot, slots_of, row_slots, rows_slots}
 use Rattle.lan_levels.proofs.Growth.{lists_in-reverse}
 use Rattle.lan_levels.proofs.Leaves.{onward}
-use Rattle.lan_zip.specs.declared.form.ValueForm.{ValueForm}
-use Rattle.lan_zip.specs.declared.form.ValueForm.TheVariants as value
-use Rattle.lan_zip.specs.Form.{PlainForm, value_form}
-use Rattle.lan_zip.specs.Written.{kind_of, leaf_form, FitsForm, CanStand, HasNumber}
+use Rattle.lan_levels.specs.declared.shape.ValueForm.{ValueForm}
+use Rattle.lan_levels.specs.declared.shape.ValueForm.TheVariants as value
+use Rattle.lan_levels.specs.ZipForm.{PlainForm, value_form, kind_of, leaf_form}
+use Rattle.lan_levels.specs.ZipWritten.{FitsForm, CanStand}
+use Rattle.lan_zip.specs.Building.{HasNumber}
 use Rattle.lan_zip.specs.Standing.{AllHaveRoom}
 use Rattle.lan_zip.proofs.Paths.{EachValue, FitsPath, RowFits, fitting_row}
 

@@ -8,7 +8,8 @@ use Rattle.lan_model.specs.Plain.{PlainType, text, plain_type}
 use Rattle.lan_levels.specs.declared.slot.State.TheVariants as state
 use Rattle.lan_levels.specs.PlainSlots.{PlainSlot, bytes, nothing}
 use Rattle.lan_levels.specs.SlotsOf.{slot}
-use Rattle.lan_zip.specs.Written.{leaf_form, written_form, CanStand}
+use Rattle.lan_levels.specs.ZipForm.{leaf_form, written_form}
+use Rattle.lan_levels.specs.ZipWritten.{CanStand}
 
 abbrev three : List PlainSlot
 three = slot 0 state.Here (bytes (97 ∷ 98 ∷ [])) ∷ slot 0 (state.Null 0) nothing ∷ slot 0 state.Here (bytes []) ∷ []

@@ -2,8 +2,9 @@
 use Rattle.std.specs.Prelude.{ℕ, ◌∷◌, ◌≤◌, List, length, All}
 use Rattle.lan_model.specs.declared.tree.Leaf.{Leaf}
 use Rattle.lan_levels.specs.PlainSlots.{PlainSlot}
-use Rattle.lan_zip.specs.Spelled.{AreRows, IsZip}
-use Rattle.lan_zip.specs.Written.{written_form, CanStand, ArePage}
+use Rattle.lan_levels.specs.ZipSlots.{AreRows, IsZip}
+use Rattle.lan_levels.specs.ZipForm.{written_form}
+use Rattle.lan_levels.specs.ZipWritten.{CanStand, ArePage}
 
 -- the first buffer of a page of slots is these slots, and as many rows as they begin
 abbrev pub PagesAreRead : Type 0

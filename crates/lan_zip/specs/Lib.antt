@@ -1,5 +1,6 @@
 pub mod Form
-pub mod Spelled
-pub mod Written
+pub mod Walk
+pub mod Refusals
+pub mod Building
 pub mod Inverse
 pub mod Standing

@@ -4,7 +4,8 @@ use Rattle.lan_model.specs.Plain.{PlainFields, PlainValue, null, bits, raw, item
 use Rattle.lan_model.specs.Fits.{EachFits}
 use Rattle.lan_model.specs.Leaves.{leaves_from}
 use Rattle.lan_levels.specs.SlotsOf.{rows_slots}
-use Rattle.lan_zip.specs.Written.{leaf_form, CanStand}
+use Rattle.lan_levels.specs.ZipForm.{leaf_form}
+use Rattle.lan_levels.specs.ZipWritten.{CanStand}
 
 abbrev mutual
   -- no text and no bytes inside are as long as 2^32

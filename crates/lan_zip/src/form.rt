@@ -1,22 +1,12 @@
-ghost use Rattle.std.specs.Prelude.{◌≡◌, ◌⊎◌, ◌+◌, ◌-◌, ◌^◌, ◌<◌, ◌≤◌, length};
+ghost use Rattle.std.specs.Prelude.{◌≡◌, ◌⊎◌, ◌+◌, ◌-◌, ◌*◌, ◌^◌, ◌<◌, ◌≤◌, length};
 ghost use Rattle.lan_levels.specs.Codes.{FitCodes, states_of};
 ghost use Rattle.lan_levels.specs.SlotsOf.{lists_in};
 ghost use Rattle.lan_model.specs.Plain.{plain_type};
-ghost use Rattle.lan_zip.specs.Form.{IsForm, digits, form_of, plain_form, value_form};
+ghost use Rattle.lan_zip.specs.Form.{IsForm, plain_form};
+ghost use Rattle.lan_levels.specs.ZipForm.{digits, form_of, value_form, word_size};
 
-use lan_levels::{Codes, Shape, ValueKind, greatest};
+use lan_levels::{Codes, Shape, ValueForm, ValueKind, greatest};
 use lan_model::{Layer, Leaf, Primitive, Ty};
-
-/// How a value stands in a slot.
-#[derive(Clone, Copy, Debug)]
-pub enum ValueForm {
-    /// One byte, 0 for false and any other for true.
-    Bool,
-    /// So many bytes.
-    Fixed(u64),
-    /// A length of four bytes, low byte first, and so many bytes.
-    Variable,
-}
 
 /// What each slot of a page is read by, established once.
 #[derive(Clone, Copy)]
@@ -50,7 +40,7 @@ impl<'a> Form<'a> {
             lists,
             bits,
             mask: (1 << u32::from(bits)) - 1,
-            word: ((digits(lists) + bits + 7) / 8) as u8,
+            word: word_size(digits(lists) + bits),
             value: value_form(&shape.leaf.ty, shape.values),
         }
     }
@@ -94,6 +84,22 @@ fn digits(n: u16) -> u16
         5
     } else {
         6
+    }
+}
+
+/// How many bytes a control word has, whose two numbers have so many bits together.
+fn word_size(bits: u16) -> u8
+    ensures value { result ≡ word_size bits }
+    ensures few { result ≤ 2 }
+    ensures room { bits ≤ 16 → bits ≤ 8 * result }
+    ensures some { 0 < bits → 0 < result }
+{
+    if bits < 1 {
+        0
+    } else if bits < 9 {
+        1
+    } else {
+        2
     }
 }
 

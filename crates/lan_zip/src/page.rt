@@ -4,11 +4,15 @@ ghost use Rattle.lan_model.specs.Plain.{plain_type};
 ghost use Rattle.lan_levels.specs.Codes.{states_of};
 ghost use Rattle.lan_levels.specs.PlainSlots.{plain_piece, plain_slot};
 ghost use Rattle.lan_zip.specs.Form.{IsForm, plain_form};
-ghost use Rattle.lan_zip.specs.Written.{written_form, kind_of, CanStand, word_bytes, value_bytes, HasNumber, IsShort, Appends, is_indexed, Gathered, ArePage};
+ghost use Rattle.lan_levels.specs.ZipForm.{written_form, kind_of};
+ghost use Rattle.lan_levels.specs.ZipWritten.{CanStand, value_bytes, is_indexed, Gathered, ArePage};
+ghost use Rattle.lan_zip.specs.Building.{HasNumber, IsShort, Appends};
 
-use crate::form::{Form, ValueForm};
+use crate::form::Form;
 use lan_bytes::Out;
-use lan_levels::{Piece, Shape, Slot, SlotBuf, State, ValueKind, codes_of, is_bare, number_of};
+use lan_levels::{
+    Piece, Shape, Slot, SlotBuf, State, ValueForm, ValueKind, codes_of, is_bare, number_of,
+};
 use lan_model::{Blobs, Leaf, List, Ty, width};
 use std::alloc::{AllocError, Global};
 
@@ -137,7 +141,7 @@ fn number(form: &Form<'_>, state: State) -> u16
 fn put_word(word: u8, number: u64, out: &mut Out) -> Result<(), AllocError>
     requires word { word ≤ 2 }
     requires fits { number < 2 ^ (8 * word) }
-    ensures { OnOk result (out.new ≡ out.old ++ word_bytes word number) }
+    ensures { OnOk result (out.new ≡ out.old ++ low_first word number) }
 {
     match word {
         0 => Ok(()),

@@ -1,10 +1,11 @@
 ghost use Rattle.std.specs.Prelude.{◌≡◌, ◌%◌, ◌^◌, ◌≤◌, length, slice_get};
 ghost use Rattle.lan_levels.specs.declared.slot.State.TheVariants as state;
 ghost use Rattle.lan_zip.specs.Form.{IsForm, plain_form};
-ghost use Rattle.lan_zip.specs.Spelled.{plain_step, first_slot, with_value, plain_part, value_part, sized_part, slot_value, word_number};
+ghost use Rattle.lan_zip.specs.Walk.{plain_step, plain_part};
+ghost use Rattle.lan_levels.specs.ZipSlots.{first_slot, with_value, value_part, sized_part, slot_value, word_number};
 
-use crate::form::{Form, ValueForm};
-use lan_levels::{Piece, Slot, State, is_bare, state_of};
+use crate::form::Form;
+use lan_levels::{Piece, Slot, State, ValueForm, is_bare, state_of};
 
 /// What stands at the front of some bytes: a slot and the bytes behind it, or why there is none.
 #[derive(Clone, Copy)]

@@ -1,15 +1,18 @@
 ghost use Rattle.std.specs.Prelude.{◌≡◌, ◌==◌, cond, ℕ, List, ◌∷◌, [], ◌^◌, ◌<◌, ◌≤◌, length, ◌↔◌, IsTrue, IfSome, IfNone, IfOk, IfErr};
 ghost use Rattle.lan_levels.specs.Codes.{FitCodes};
 ghost use Rattle.lan_levels.specs.PlainSlots.{PlainSlot, plain_slot};
-ghost use Rattle.lan_zip.specs.declared.form.ValueForm.TheVariants as value;
-ghost use Rattle.lan_zip.specs.Form.{IsForm, form_of, plain_form};
-ghost use Rattle.lan_zip.specs.Spelled.{Begins, first_slot, IsZip, Listed, Stands};
+ghost use Rattle.lan_levels.specs.declared.shape.ValueForm.TheVariants as value;
+ghost use Rattle.lan_zip.specs.Form.{IsForm, plain_form};
+ghost use Rattle.lan_levels.specs.ZipForm.{form_of};
+ghost use Rattle.lan_zip.specs.Walk.{Begins, Listed};
+ghost use Rattle.lan_levels.specs.ZipSlots.{first_slot, IsZip};
+ghost use Rattle.lan_zip.specs.Refusals.{Stands};
 
 use crate::fault::ZipFault;
-use crate::form::{Form, ValueForm};
+use crate::form::Form;
 use crate::step::{Step, first_slot};
 use lan_bytes::View;
-use lan_levels::{Shape, Slot};
+use lan_levels::{Shape, Slot, ValueForm};
 use std::marker::Model;
 
 /// The slots of a full-zip page. A contract sees their list.
@@ -27,7 +30,8 @@ impl<'a> Model for ZipView<'a> {
     ghost use Rattle.std.specs.Prelude.{List};
     ghost use Rattle.lan_levels.specs.PlainSlots.{PlainSlot};
     ghost use Rattle.lan_zip.specs.Form.{IsForm, plain_form};
-    ghost use Rattle.lan_zip.specs.Spelled.{spelled, slots_in, Whole};
+    ghost use Rattle.lan_levels.specs.ZipSlots.{spelled};
+    ghost use Rattle.lan_zip.specs.Walk.{slots_in, Whole};
 
     ghost Value = { List PlainSlot };
 
@@ -48,7 +52,8 @@ impl<'a> Model for ZipSlots<'a> {
     ghost use Rattle.std.specs.Prelude.{List};
     ghost use Rattle.lan_levels.specs.PlainSlots.{PlainSlot};
     ghost use Rattle.lan_zip.specs.Form.{IsForm, plain_form};
-    ghost use Rattle.lan_zip.specs.Spelled.{spelled, slots_in, Whole};
+    ghost use Rattle.lan_levels.specs.ZipSlots.{spelled};
+    ghost use Rattle.lan_zip.specs.Walk.{slots_in, Whole};
 
     ghost Value = { List PlainSlot };
 

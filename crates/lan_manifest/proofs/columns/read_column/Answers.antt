@@ -2,15 +2,15 @@ use Rattle.std.proofs.Common.{false, ◌∙◌, subst}
 use Rattle.std.proofs.lemmas.Result.{err_from_is_err_and}
 use Rattle.lan_bytes.specs.Placed.{Placed}
 use Rattle.lan_model.specs.Plain.{field}
-use Rattle.lan_schema.specs.FieldMessage.{SaysField, BreaksOff, flat_of}
-use Rattle.lan_schema.proofs.OneField.{no_field}
+use Rattle.lan_schema.specs.FieldMessage.{SaysField, FailsField, flat_of}
+use Rattle.lan_schema.proofs.LawTerms.{no_field}
 use Rattle.lan_manifest.specs.Columns.{column_flat}
 use Rattle.lan_manifest.proofs.ColumnItems.{is_said}
 use Rattle.lan_manifest.proofs.columns.read_column.Goals as goal
 
 pub returns-in_err-entry-clause-again : goal.returns-in_err-entry-clause-again
 returns-in_err-entry-clause-again c = λ f is says.
-    let breaks = subst (λ (p : Placed). BreaksOff p c.in_err-entry.field-0.0) c.again.ensures c.in_err-entry.ensures in
+    let breaks = subst (λ (p : Placed). FailsField p c.in_err-entry.field-0.0) c.again.ensures c.in_err-entry.ensures in
     absurd (no_field c.args.message.now (column_flat f) c.in_err-entry.field-0.0 says breaks)
 
 pub returns-in_err-name-clause-again : goal.returns-in_err-name-clause-again

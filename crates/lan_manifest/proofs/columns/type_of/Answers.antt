@@ -3,7 +3,7 @@ use Rattle.std.specs.Prelude.{ℕ, Option, Some, None}
 use Rattle.std.proofs.lemmas.Option.{same_Some}
 use Rattle.lan_model.specs.Plain.{PlainType, plain_type}
 use Rattle.lan_schema.specs.Logical.{IsFixedType}
-use Rattle.lan_schema.proofs.LeafNames.{named_once}
+use Rattle.lan_schema.proofs.LawTerms.{named_once}
 use Rattle.lan_manifest.proofs.ColumnText.{type_named}
 use Rattle.lan_manifest.proofs.Walking.{not_false}
 use Rattle.lan_manifest.proofs.columns.type_of.Goals as goal

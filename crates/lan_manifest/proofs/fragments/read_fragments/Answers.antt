@@ -2,7 +2,7 @@ use Rattle.std.proofs.Common.{◌≡◌, List, [], ◌++◌, sym, ap, ◌∙◌,
 use Rattle.std.proofs.lemmas.Result.{err_from_is_err_and}
 use Rattle.lan_wire.specs.declared.item.Item.{Item}
 use Rattle.lan_wire.specs.Spells.{Begins}
-use Rattle.lan_wire.proofs.FaultsHold.{no_items}
+use Rattle.lan_wire.proofs.LawTerms.{no_items}
 use Rattle.lan_manifest.specs.declared.manifest.Fragment.{Fragment}
 use Rattle.lan_manifest.specs.Readable.{SpellFragments}
 use Rattle.lan_manifest.proofs.Walking.{items_next, items_end}

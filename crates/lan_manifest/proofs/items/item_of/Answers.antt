@@ -1,6 +1,6 @@
 use Rattle.std.proofs.Common.{sym, ap, ◌∙◌}
 use Rattle.lan_wire.specs.Spells.{Begins}
-use Rattle.lan_wire.proofs.FaultsHold.{no_items}
+use Rattle.lan_wire.proofs.LawTerms.{no_items}
 use Rattle.lan_manifest.specs.Walks.{first_of}
 use Rattle.lan_manifest.proofs.Walking.{items_next, items_end, first_found, first_passed}
 use Rattle.lan_manifest.proofs.items.item_of.Goals as goal

@@ -1,6 +1,6 @@
 use Rattle.std.proofs.Common.{◌≡◌, ◌≤◌, ◌*◌, map, take}
-use Rattle.std.specs.Option.{ForSome}
 use Rattle.std.specs.Prelude.{None}
+use Rattle.std.specs.Option.{ForSome}
 use Rattle.lan_store.specs.Budget.{ranges}
 use Rattle.lan_store.specs.Looked.{Looked}
 use Rattle.lan_rows.specs.Line.{line_of}

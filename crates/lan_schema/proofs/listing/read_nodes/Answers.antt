@@ -1,24 +1,25 @@
-use Rattle.std.proofs.Common.{[], ◌∷◌, ◌++◌, sym, subst, List}
-use Rattle.lan_wire.specs.declared.item.Item.{Item}
-use Rattle.lan_wire.specs.Spells.{Begins}
-use Rattle.lan_wire.proofs.MessageLaws.{given_more}
-use Rattle.lan_schema.specs.FieldMessage.{Flat}
-use Rattle.lan_schema.specs.FieldMessages.{of_number, SayAll}
-use Rattle.lan_schema.proofs.Saying.{say_more, say_same}
+use Rattle.std.proofs.Common.{Bool, List, cond, sym, subst, ap, ◌∙◌, inr}
+use Rattle.lan_bytes.specs.Placed.{Placed}
+use Rattle.lan_wire.specs.declared.rules.Kind.TheVariants.{Messages, Past}
+use Rattle.lan_wire.specs.Messages.{ReadsItems, ReadEach, FailsInOne}
+use Rattle.lan_wire.specs.Rules.{Rules, kind_at}
+use Rattle.lan_wire.proofs.Nested.{Walked, walked_more, walked_fails, walked_all}
+use Rattle.lan_schema.specs.FieldMessage.{Flat, SaysField, FailsField, flat_of}
+use Rattle.lan_schema.proofs.ForestLaws.{nat_same}
 use Rattle.lan_schema.proofs.listing.read_nodes.Goals as goal
 
-pub loop-found-preserved-in_ok-push : goal.loop-found-preserved-in_ok-push
-loop-found-preserved-in_ok-push c =
-    let i = c.loop-found.invariant in
-    let item : Item = c.in_ok-item.item in
-    let b : Begins c.loop-found.fields item c.next.new.self = rw c.in_ok-item.was at c.in-Some.ensures.item in
-    let items = i.0 ++ item ∷ [] in
-    let f : Flat = c.in_ok-read_item.field-0 in
-    (items, given_more c.args.view i.0 c.loop-found.fields item c.next.new.self i.1 b, subst (λ (fs : List Flat). SayAll (of_number c.args.number items) fs) (sym c.in_ok-push.ensures.ok) (say_more c.args.number i.0 c.loop-found.nodes item f c.if-item-number.true i.2 c.in_ok-read_item.ensures))
+pub parts-parts-requires : goal.parts-parts-requires
+parts-parts-requires c =
+    ap (λ (rules : Rules). kind_at rules c.args.number) c.in_ok-said.ensures.rules ∙ ap (λ (b : Bool). cond b Messages Past) (nat_same c.args.number)
 
-pub loop-found-preserved : goal.loop-found-preserved
-loop-found-preserved c =
-    let i = c.loop-found.invariant in
-    let item : Item = c.in_ok-item.item in
-    let b : Begins c.loop-found.fields item c.next.new.self = rw c.in_ok-item.was at c.in-Some.ensures.item in
-    (i.0 ++ item ∷ [], given_more c.args.view i.0 c.loop-found.fields item c.next.new.self i.1 b, say_same c.args.number i.0 c.loop-found.nodes item c.if-item-number.false i.2)
+pub loop-part-preserved : goal.loop-part-preserved
+loop-part-preserved c =
+    let says = subst (λ (f : Flat). SaysField c.in-Some.part f) (sym c.new.ensures) c.in-Ok.ensures in
+    subst (λ (fs : List Flat). Walked SaysField c.parts-parts.result c.next.new.self fs) (sym c.in_ok-push-in-Ok.ensures.ok)
+    (walked_more SaysField c.parts-parts.result c.loop-part.parts c.next.new.self c.in-Some.part c.loop-part.nodes c.new.result c.loop-part.invariant c.in-Some.ensures.some says)
+
+pub returns-in-Err-clause-err : goal.returns-in-Err-clause-err
+returns-in-Err-clause-err c =
+    let parts = c.parts-parts.result in
+    let one : FailsInOne FailsField parts c.in-Err.fault = walked_fails SaysField FailsField parts c.loop-part.parts c.next.new.self c.in-Some.part c.loop-part.nodes c.in-Err.fault c.loop-part.invariant c.in-Some.ensures.some c.in-Err.ensures in
+    inr (record { items = c.in_ok-said.said.items; reads = c.in_ok-said.ensures.ok; said = subst (λ (ps : List Placed). FailsInOne FailsField ps c.in-Err.fault) c.parts-parts.ensures one })

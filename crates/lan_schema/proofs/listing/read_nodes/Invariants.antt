@@ -1,11 +1,10 @@
-use Rattle.std.proofs.Common.{List, length}
-use Rattle.lan_wire.specs.declared.item.Item.{Item}
-use Rattle.lan_wire.specs.Spells.{Given}
-use Rattle.lan_schema.specs.FieldMessages.{of_number, SayAll}
+use Rattle.std.proofs.Common.{length}
+use Rattle.lan_wire.proofs.Nested.{Walked}
+use Rattle.lan_schema.specs.FieldMessage.{SaysField}
 use Rattle.lan_schema.proofs.listing.read_nodes.Given as goal
 
-abbrev pub invariant-loop-found : goal.invariant-loop-found
-invariant-loop-found l = (items : List Item) × Given l.fn.view items l.fields × SayAll (of_number l.number items) (l.nodes)
+abbrev pub invariant-loop-part : goal.invariant-loop-part
+invariant-loop-part l = Walked SaysField l.initial.parts l.parts l.nodes
 
-abbrev pub decreases-loop-found : goal.decreases-loop-found
-decreases-loop-found l = length l.fields.bytes
+abbrev pub decreases-loop-part : goal.decreases-loop-part
+decreases-loop-part l = length l.parts

@@ -1,5 +1,5 @@
 use Rattle.std.proofs.Common.{◌≡◌, ◌++◌}
-use Rattle.lan_values.specs.Built.{bool_bytes}
+use Rattle.lan_levels.specs.BuiltValues.{bool_bytes}
 use Rattle.lan_values.proofs.bools.put_bytes.Given as goal
 
 abbrev pub invariant-loop-i : goal.invariant-loop-i

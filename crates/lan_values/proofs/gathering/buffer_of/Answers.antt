@@ -1,5 +1,5 @@
 use Rattle.std.proofs.Common.{rules, ◌∙◌, ◌<◌, length, arith}
-use Rattle.lan_values.specs.Built.{four_bytes}
+use Rattle.lan_levels.specs.BuiltValues.{four_bytes}
 use Rattle.lan_values.proofs.Ends.{sum_more, ends_more, all_ends}
 use Rattle.lan_values.proofs.gathering.buffer_of.Goals as goal
 

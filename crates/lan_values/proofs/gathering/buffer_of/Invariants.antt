@@ -1,5 +1,5 @@
 use Rattle.std.proofs.Common.{◌≡◌, ◌+◌, ◌*◌, ◌++◌, drop, length, sum}
-use Rattle.lan_values.specs.Built.{four_bytes, ends_bytes}
+use Rattle.lan_levels.specs.BuiltValues.{four_bytes, ends_bytes}
 use Rattle.lan_values.proofs.gathering.buffer_of.Given as goal
 
 abbrev pub invariant-loop-length : goal.invariant-loop-length

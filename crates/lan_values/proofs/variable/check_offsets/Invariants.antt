@@ -1,5 +1,5 @@
 use Rattle.std.proofs.Common.{◌≡◌}
-use Rattle.lan_values.specs.Values.{offset, NoneFalls}
+use Rattle.lan_levels.specs.Values.{offset, NoneFalls}
 use Rattle.lan_values.proofs.variable.check_offsets.Given as goal
 
 abbrev pub invariant-loop-i : goal.invariant-loop-i

@@ -2,7 +2,7 @@ use Rattle.std.proofs.Common.{◌∙◌, ◌-◌, ap, subst, sym, arith, take, d
 use Rattle.lan_bytes.specs.Numbers.{low_first}
 use Rattle.lan_levels.specs.PlainSlots.{PlainSlot, plain_slot}
 use Rattle.lan_zip.specs.Form.{plain_form}
-use Rattle.lan_zip.specs.Written.{begins, Gathered}
+use Rattle.lan_levels.specs.ZipWritten.{begins, Gathered}
 use Rattle.lan_zip.proofs.Gathering.{gathered_more, range_more, stands_at}
 use Rattle.lan_zip.proofs.page.gather.Goals as goal
 

@@ -1,6 +1,6 @@
 use Rattle.std.proofs.Common.{◌-◌, take, drop}
 use Rattle.lan_zip.specs.Form.{plain_form}
-use Rattle.lan_zip.specs.Written.{Gathered}
+use Rattle.lan_levels.specs.ZipWritten.{Gathered}
 use Rattle.lan_zip.proofs.page.gather.Given as goal
 
 abbrev pub invariant-loop-i : goal.invariant-loop-i

@@ -3,7 +3,7 @@ use Rattle.std.proofs.lemmas.Nat.{pow_pos}
 use Rattle.std.proofs.lemmas.Result.{on_ok_weaker}
 use Rattle.lan_levels.specs.PlainSlots.{plain_slot}
 use Rattle.lan_zip.specs.Form.{plain_form}
-use Rattle.lan_zip.specs.Written.{value_bytes}
+use Rattle.lan_levels.specs.ZipWritten.{value_bytes}
 use Rattle.lan_zip.proofs.Gathering.{number_below, bare_is, slot_appended}
 use Rattle.lan_zip.proofs.page.put_slot.Goals as goal
 

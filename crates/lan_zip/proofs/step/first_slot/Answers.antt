@@ -1,7 +1,7 @@
 use Rattle.std.proofs.Common.{◌∙◌, refl}
 use Rattle.lan_levels.specs.Codes.{states_from}
 use Rattle.lan_zip.specs.Form.{plain_form}
-use Rattle.lan_zip.proofs.FirstSlot.{wordless}
+use Rattle.lan_levels.proofs.ZipFirst.{wordless}
 use Rattle.lan_zip.proofs.step.first_slot.Goals as goal
 
 pub returns-then-form-eq0 : goal.returns-then-form-eq0

@@ -1,8 +1,8 @@
 use Rattle.std.proofs.Common.{◌∙◌, ◌/◌, ◌^◌, ℕ, List, Option, ap, drop}
 use Rattle.lan_levels.specs.declared.slot.State.{State}
 use Rattle.lan_zip.specs.Form.{plain_form}
-use Rattle.lan_zip.specs.Spelled.{with_state, with_value, slot_value, word_number}
-use Rattle.lan_zip.proofs.FirstSlot.{word_cut, word_read}
+use Rattle.lan_levels.specs.ZipSlots.{with_state, with_value, slot_value, word_number}
+use Rattle.lan_levels.proofs.ZipFirst.{word_cut, word_read}
 use Rattle.lan_zip.proofs.step.worded_slot.Goals as goal
 
 pub returns-then-bytes-width : goal.returns-then-bytes-width

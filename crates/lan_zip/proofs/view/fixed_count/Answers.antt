@@ -1,7 +1,7 @@
 use Rattle.std.proofs.Common.{◌≡◌, ◌*◌, ◌^◌, ◌<◌, ℕ, length, refl, arith}
 use Rattle.lan_levels.specs.Codes.{states_from}
 use Rattle.lan_zip.specs.declared.form.Form.{Form}
-use Rattle.lan_zip.specs.declared.form.ValueForm.TheVariants as value
+use Rattle.lan_levels.specs.declared.shape.ValueForm.TheVariants as value
 use Rattle.lan_zip.specs.Form.{plain_form}
 use Rattle.lan_zip.proofs.Fixed.{AreFixed, fixed_listed, fixed_more, fixed_stops}
 use Rattle.lan_zip.proofs.view.fixed_count.Goals as goal

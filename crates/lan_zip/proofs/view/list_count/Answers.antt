@@ -2,9 +2,9 @@ use Rattle.std.proofs.Common.{rules, Some, List, ℕ, ◌≡◌, ◌∙◌, ◌+
 use Rattle.std.proofs.lemmas.List.{nil_from_length}
 use Rattle.lan_levels.specs.PlainSlots.{plain_slot}
 use Rattle.lan_zip.specs.Form.{plain_form}
-use Rattle.lan_zip.specs.Spelled.{Part, spelled}
-use Rattle.lan_zip.proofs.FirstSlot.{shorter}
-use Rattle.lan_zip.proofs.Walks.{spelled_none, put_last}
+use Rattle.lan_levels.specs.ZipSlots.{Part, spelled}
+use Rattle.lan_levels.proofs.ZipFirst.{shorter}
+use Rattle.lan_levels.proofs.ZipWalks.{spelled_none, put_last}
 use Rattle.lan_zip.proofs.Rows.{starts_last, listed_rows, first_begins, other}
 use Rattle.lan_zip.proofs.view.list_count.Goals as goal
 use Rattle.lan_zip.proofs.view.list_count.Goals.{then-starts-rows-via-then-starts-rows, then-starts-rows-via-else-starts-rows+then-not-begins_row}

@@ -1,6 +1,6 @@
 use Rattle.std.proofs.Common.{◌≡◌, ◌+◌, ◌≤◌, length}
 use Rattle.lan_zip.specs.Form.{plain_form}
-use Rattle.lan_zip.specs.Spelled.{starts}
+use Rattle.lan_levels.specs.ZipSlots.{starts}
 use Rattle.lan_zip.proofs.Rows.{Walked}
 use Rattle.lan_zip.proofs.view.list_count.Given as goal
 

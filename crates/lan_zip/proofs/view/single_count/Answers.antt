@@ -2,8 +2,8 @@ use Rattle.std.proofs.Common.{rules, Some, List, ℕ, ◌≡◌, ◌∙◌, ◌+
 use Rattle.std.proofs.lemmas.List.{nil_from_length}
 use Rattle.lan_levels.specs.PlainSlots.{plain_slot}
 use Rattle.lan_zip.specs.Form.{plain_form}
-use Rattle.lan_zip.specs.Spelled.{cut, level, spelled}
-use Rattle.lan_zip.proofs.Walks.{spelled_none, put_last, count_slots}
+use Rattle.lan_levels.specs.ZipSlots.{cut, level, spelled}
+use Rattle.lan_levels.proofs.ZipWalks.{spelled_none, put_last, count_slots}
 use Rattle.lan_zip.proofs.Rows.{stops_single, single_rows}
 use Rattle.lan_zip.proofs.view.single_count.Goals as goal
 

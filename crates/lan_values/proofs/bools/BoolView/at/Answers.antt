@@ -1,5 +1,5 @@
 use Rattle.std.proofs.Common.{arith}
-use Rattle.lan_values.specs.Values.{bools, value_at}
+use Rattle.lan_levels.specs.Values.{bools, value_at}
 use Rattle.lan_values.proofs.Each.{below_count, got}
 use Rattle.lan_values.proofs.bools.BoolView.at.Goals as goal
 

@@ -1,5 +1,5 @@
 use Rattle.std.proofs.Common.{rules, subst, sym, List, ℕ}
-use Rattle.lan_values.specs.Values.{bools, IsBuffer, values_of, ValuesOf}
+use Rattle.lan_levels.specs.Values.{bools, IsBuffer, values_of, ValuesOf}
 use Rattle.lan_values.proofs.Each.{values_are}
 use Rattle.lan_values.proofs.bools.BoolView.open.Goals as goal
 

@@ -1,6 +1,6 @@
 use Rattle.std.proofs.Common.{refl}
 use Rattle.lan_levels.specs.PlainSlots.{plain_piece}
-use Rattle.lan_values.specs.Values.{same_values}
+use Rattle.lan_levels.specs.Values.{same_values}
 use Rattle.lan_values.proofs.Each.{counted}
 use Rattle.lan_values.proofs.constant.ConstView.new.Goals as goal
 

@@ -1,6 +1,6 @@
 use Rattle.std.proofs.Common.{length, arith, ◌∙◌, ap, sym, Some, List, ℕ, take}
 use Rattle.lan_levels.specs.PlainSlots.{bytes}
-use Rattle.lan_values.specs.Values.{flat, value_at}
+use Rattle.lan_levels.specs.Values.{flat, value_at}
 use Rattle.lan_values.proofs.Each.{below_count, got, flat_room}
 use Rattle.lan_values.proofs.flat.FlatView.at.Goals as goal
 

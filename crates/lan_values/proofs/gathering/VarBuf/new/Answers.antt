@@ -1,5 +1,5 @@
 use Rattle.std.proofs.Common.{ap, ◌∙◌, List, ℕ}
-use Rattle.lan_values.specs.Built.{cut_by}
+use Rattle.lan_values.specs.Cut.{cut_by}
 use Rattle.lan_values.proofs.Cuts.{cut_nil}
 use Rattle.lan_values.proofs.gathering.VarBuf.new.Goals as goal
 

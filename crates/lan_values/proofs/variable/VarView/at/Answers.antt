@@ -1,6 +1,6 @@
 use Rattle.std.proofs.Common.{◌-◌, arith, ◌∙◌, ap, ap₂, sym, Some, List, ℕ, take, drop}
 use Rattle.lan_levels.specs.PlainSlots.{bytes}
-use Rattle.lan_values.specs.Values.{variable, value_at}
+use Rattle.lan_levels.specs.Values.{variable, value_at}
 use Rattle.lan_values.proofs.Each.{below_count, got}
 use Rattle.lan_values.proofs.Offsets.{around}
 use Rattle.lan_values.proofs.variable.VarView.at.Goals as goal

@@ -1,5 +1,5 @@
 use Rattle.std.proofs.Common.{subst, sym, List, ℕ}
-use Rattle.lan_values.specs.Values.{variable, IsBuffer, values_of, ValuesOf}
+use Rattle.lan_levels.specs.Values.{variable, IsBuffer, values_of, ValuesOf}
 use Rattle.lan_values.proofs.Each.{values_are}
 use Rattle.lan_values.proofs.variable.VarView.open.Goals as goal
 

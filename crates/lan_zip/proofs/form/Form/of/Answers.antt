@@ -1,4 +1,4 @@
-use Rattle.std.proofs.Common.{◌^◌, ◌*◌, ◌%◌, ◌-◌, ◌+◌, ◌/◌, ℕ, arith, ap, ◌∙◌}
+use Rattle.std.proofs.Common.{◌^◌, ◌*◌, ◌%◌, ◌-◌, ℕ, arith, ap, ◌∙◌}
 use Rattle.std.proofs.lemmas.Nat.{one_shl}
 use Rattle.lan_levels.proofs.LayerCodes.{fitting_are, fitting_count}
 use Rattle.lan_zip.proofs.Words.{word_room}
@@ -25,8 +25,8 @@ returns-clause-is c =
       codes = fitting_are codes layers c.requires.codes;
       bits = bits;
       mask = ap (λ (k : ℕ). 1 * 2 ^ k % 65536 - 1) c.from.ensures ∙ ap (λ (k : ℕ). k - 1) (one_shl c.digits-bits.result 16 (omega arith));
-      word = omega arith;
-      some = λ lt. let more = some lt in omega arith;
+      word = c.word_size.ensures.few;
+      some = λ lt. let more = some lt in c.word_size.ensures.some (omega arith);
       below = omega (arith, c.digits-bits.ensures.room, c.greatest.ensures.count);
-      room = λ rep def le lt. word_room c.digits.result c.digits-bits.result ((c.digits.result + c.digits-bits.result + 7) / 8) rep def c.lists-lists.result (omega arith) c.digits.ensures.room le lt;
+      room = λ rep def le lt. let wide = c.word_size.ensures.room (omega arith) in word_room c.digits.result c.digits-bits.result c.word_size.result rep def c.lists-lists.result (omega arith) c.digits.ensures.room le lt;
     }

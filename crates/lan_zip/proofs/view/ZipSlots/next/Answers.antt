@@ -1,7 +1,8 @@
 use Rattle.std.proofs.Common.{◌≡◌, ◌∙◌, ◌-◌, suc, inl, inr, refl, ap, sym, arith}
 use Rattle.lan_levels.specs.PlainSlots.{plain_slot}
 use Rattle.lan_zip.specs.Form.{plain_form}
-use Rattle.lan_zip.specs.Spelled.{cut, level, plain_step}
+use Rattle.lan_levels.specs.ZipSlots.{cut, level}
+use Rattle.lan_zip.specs.Walk.{plain_step}
 use Rattle.lan_zip.proofs.Rows.{walk_on, walk_gives, walk_stops, walk_ends}
 use Rattle.lan_zip.proofs.view.ZipSlots.next.Goals as goal
 

@@ -1,7 +1,10 @@
 use Rattle.std.proofs.Common.{rules, IfErr, ◌<◌, subst, List, ℕ}
 use Rattle.std.proofs.lemmas.Result.{MatchResult-weaker}
-use Rattle.lan_zip.specs.Form.{PlainForm, form_of, plain_form}
-use Rattle.lan_zip.specs.Spelled.{IsZip, Stands, spelled, slots_in}
+use Rattle.lan_levels.specs.ZipForm.{PlainForm, form_of}
+use Rattle.lan_zip.specs.Form.{plain_form}
+use Rattle.lan_levels.specs.ZipSlots.{IsZip, spelled}
+use Rattle.lan_zip.specs.Refusals.{Stands}
+use Rattle.lan_zip.specs.Walk.{slots_in}
 use Rattle.lan_zip.proofs.Rows.{refused, zip_of}
 use Rattle.lan_zip.proofs.view.ZipView.open.Goals as goal
 

@@ -1,5 +1,0 @@
-use Rattle.lan_schema.proofs.OneReading.{one_reading}
-use Rattle.lan_schema.proofs.reading_laws.one_list_of_fields.Goals as goal
-
-pub returns : goal.returns
-returns c = one_reading

@@ -25,15 +25,16 @@ use Rattle.lan_read.specs.Standing.{StandsAt, RowsOf, Agrees}
 use Rattle.lan_read.proofs.Monotone.{rows_more, held_last}
 use Rattle.lan_read.proofs.OneTable.{one_column, manifest_one}
 use Rattle.lan_commit.specs.Limits.{bytes_limit}
-use Rattle.lan_commit.specs.Puts.{next_version, append_puts, limit_of}
+use Rattle.lan_commit.specs.Puts.{next_version, append_puts, limit_of_append}
 use Rattle.lan_commit.proofs.Appended.{none_from, small_objects, append_agrees, adds_alone}
+use Rattle.lan_commit.proofs.GreatestIds.{known_below}
 use Rattle.lan_commit.proofs.NextManifest.{next_rules}
 use Rattle.lan_commit.proofs.NextVersion.{next_agrees}
 use Rattle.lan_commit.proofs.NoLimit.{no_version_limit, no_limit_reached}
 
--- the rules don't speak of the version
+-- the rules speak of no version, and the greatest id that is known may stand
 version_rules : (m : PlainManifest) → IsManifest m → IsManifest (next_version m)
-version_rules m rules = record { fields = rules.fields; few = rules.few; distinct = rules.distinct; ids = rules.ids; rows = rules.rows; files = rules.files; greatest = rules.greatest }
+version_rules m rules = record { fields = rules.fields; few = rules.few; distinct = rules.distinct; ids = rules.ids; rows = rules.rows; files = rules.files; greatest = known_below m rules.ids rules.greatest }
 
 -- a version alone stands for the table that stood
 version_stands : (old : List Object) (version : ℕ) (t : Table) (stands : StandsAt old version t) → IsVersion (stands.manifest.version + 1) → object old (manifest_name (stands.manifest.version + 1)) ≡ None
@@ -100,7 +101,7 @@ rows_held fields f row rows are is = subst (λ (l : List (PlainField ℕ)). All 
 
 -- of the manifest that the version stands by
 of_its_own : (old : List Object) (d : Dataset) (version : ℕ) (t : Table) (stands : StandsAt old version t) (rows : List (List PlainValue)) → Agrees old d → IsNewest old version
-    → All (FitsRow stands.manifest.fields) rows → limit_of old stands.manifest rows ≡ None → Agrees (old ++ append_puts old stands.manifest rows) (with_version d (version + 1) (record t { rows = t.rows ++ rows }))
+    → All (FitsRow stands.manifest.fields) rows → limit_of_append old stands.manifest rows ≡ None → Agrees (old ++ append_puts old stands.manifest rows) (with_version d (version + 1) (record t { rows = t.rows ++ rows }))
 of_its_own old d version t stands [] agrees newest fit none =
     let small = no_version_limit stands.manifest (bytes_limit (append_puts old stands.manifest [])) none in
     version_agrees old d version t stands agrees newest (omega arith, omega (arith, small.0, stands.reads.reads.numbered)) small.1
@@ -115,7 +116,7 @@ of_its_own old d version t stands (row ∷ rows) agrees newest fit none =
 
 -- an append that reaches no limit: the objects with its puts agree with the dataset with its version more
 pub append_agrees_all : (old : List Object) (d : Dataset) (version : ℕ) (t : Table) (m : PlainManifest) (rows : List (List PlainValue)) → Agrees old d → IsNewest old version → ManifestAt old version m → StandsAt old version t
-    → All (FitsRow m.fields) rows → limit_of old m rows ≡ None → Agrees (old ++ append_puts old m rows) (with_version d (version + 1) (record t { rows = t.rows ++ rows }))
+    → All (FitsRow m.fields) rows → limit_of_append old m rows ≡ None → Agrees (old ++ append_puts old m rows) (with_version d (version + 1) (record t { rows = t.rows ++ rows }))
 append_agrees_all old d version t m rows agrees newest reads stands =
-    subst (λ (n : PlainManifest). All (FitsRow n.fields) rows → limit_of old n rows ≡ None → Agrees (old ++ append_puts old n rows) (with_version d (version + 1) (record t { rows = t.rows ++ rows })))
+    subst (λ (n : PlainManifest). All (FitsRow n.fields) rows → limit_of_append old n rows ≡ None → Agrees (old ++ append_puts old n rows) (with_version d (version + 1) (record t { rows = t.rows ++ rows })))
     (manifest_one old version stands.manifest m stands.reads reads) (of_its_own old d version t stands rows agrees newest)

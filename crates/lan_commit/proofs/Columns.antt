@@ -9,7 +9,7 @@ use Rattle.lan_model.specs.Plain.{PlainField, PlainValue, plain_field}
 use Rattle.lan_model.specs.declared.tree.Field.{Field}
 use Rattle.lan_read.proofs.OneTable.{one_column}
 use Rattle.lan_store.specs.declared.name.Object.{Object}
-use Rattle.lan_commit.specs.Puts.{file_object, next_with, puts_of}
+use Rattle.lan_commit.specs.Puts.{file_object, next_with, file_and_manifest}
 
 first_of : (f g : PlainField ℕ) (fs : List (PlainField ℕ)) → f ∷ fs ≡ g ∷ [] → g ≡ f
 first_of f g fs is = cc is
@@ -27,7 +27,7 @@ column_at (g ∷ []) f is at =
 
 -- the data file and the manifest, as an append puts them
 pub puts_are : (number : ℕ) (m : PlainManifest) (rows : List (List PlainValue)) (fields : List (PlainField ℕ)) (count : ℕ) (file manifest : Object) (next : PlainManifest)
-    → m.fields ≡ fields → count ≡ length rows → file ≡ file_object number fields rows → next ≡ next_with number m count → manifest ≡ manifest_object next → file ∷ manifest ∷ [] ≡ puts_of number m rows
+    → m.fields ≡ fields → count ≡ length rows → file ≡ file_object number fields rows → next ≡ next_with number m count → manifest ≡ manifest_object next → file ∷ manifest ∷ [] ≡ file_and_manifest number m rows
 puts_are number m rows fields count file manifest next column counted file_is next_is manifest_is =
     let first : file ≡ file_object number m.fields rows = file_is ∙ ap (λ fs. file_object number fs rows) (sym column) in
     let second : manifest ≡ manifest_object (next_with number m (length rows)) = manifest_is ∙ ap manifest_object (next_is ∙ ap (next_with number m) counted) in

@@ -1,8 +1,11 @@
+pub mod Accepted
 pub mod AppendAgrees
 pub mod Appended
+pub mod Calls
 pub mod Columns
 pub mod Created
 pub mod FirstTable
+pub mod GreatestIds
 pub mod NeverHeld
 pub mod NextManifest
 pub mod NextVersion

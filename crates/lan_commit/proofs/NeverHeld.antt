@@ -15,7 +15,7 @@ use Rattle.lan_manifest.specs.Versions.{IsNewest, manifest_name}
 use Rattle.lan_read.specs.Standing.{data_name}
 use Rattle.lan_read.proofs.Monotone.{held_either}
 use Rattle.lan_commit.specs.Limits.{bytes_limit}
-use Rattle.lan_commit.specs.Puts.{file_object, append_puts, limit_of}
+use Rattle.lan_commit.specs.Puts.{file_object, append_puts, limit_of_append}
 use Rattle.lan_commit.proofs.NoLimit.{no_version_limit, no_limit_reached}
 
 held_none : (o : Option (List ℕ)) → o ≡ None → IsSome o → ⊥
@@ -34,7 +34,7 @@ next_free_behind old file version next other newest is small held = elim (held_e
 ]
 
 -- no object of an append meets a name that is held
-pub never_held : (old : List Object) (version : ℕ) (m : PlainManifest) (rows : List (List PlainValue)) (k : ℕ) → IsNewest old version → m.version ≡ version → limit_of old m rows ≡ None
+pub never_held : (old : List Object) (version : ℕ) (m : PlainManifest) (rows : List (List PlainValue)) (k : ℕ) → IsNewest old version → m.version ≡ version → limit_of_append old m rows ≡ None
     → k < length (append_puts old m rows) → IsHeldAt k (append_puts old m rows) old → ⊥
 never_held old version m [] zero newest is none below held =
     let small = no_version_limit m (bytes_limit (append_puts old m [])) none in

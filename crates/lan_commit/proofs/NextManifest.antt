@@ -1,6 +1,6 @@
 -- The next manifest after an append obeys the rules, where no limit of a number is reached.
-use Rattle.std.proofs.Common.{◌≡◌, ◌≢◌, inl, inr, refl, ◌∙◌, ap, ℕ, zero, suc, ◌^◌, ◌<◌, ◌≤◌, List, [], ◌∷◌, ◌++◌, length, get_or, map, arith, length-append}
-use Rattle.std.specs.Prelude.{Option, Some, None, All, AllPairs, unwrap_or}
+use Rattle.std.proofs.Common.{◌≡◌, ◌≢◌, inl, inr, refl, sym, ◌∙◌, ap, subst, ℕ, zero, suc, ◌^◌, ◌<◌, ◌≤◌, List, [], ◌∷◌, ◌++◌, length, get_or, map, arith, length-append}
+use Rattle.std.specs.Prelude.{Option, Some, None, IfSome, All, AllPairs, unwrap_or}
 use Rattle.std.proofs.lemmas.Bool.{cases_lt}
 use Rattle.std.proofs.lemmas.List.{get_or_append_left}
 use Rattle.lan_model.specs.Plain.{PlainValue}
@@ -10,6 +10,7 @@ use Rattle.lan_manifest.specs.Manifests.{PlainManifest}
 use Rattle.lan_manifest.specs.declared.manifest.Fragment.{Fragment}
 use Rattle.lan_commit.specs.Puts.{appended, new_fragment}
 use Rattle.lan_manifest.specs.Reads.{IsPath, IsFile, IsManifest}
+use Rattle.lan_commit.proofs.GreatestIds.{fresh_is_greatest}
 use Rattle.lan_commit.proofs.NextVersion.{all_behind}
 
 at_most : (fs : List Fragment) (k : ℕ) (d : Fragment) → k < length fs → (get_or fs k d).id ≤ unwrap_or (greatest_of (map (λ f. f.id) fs)) 0
@@ -46,7 +47,7 @@ next_rules old m row rows rules few fresh count path = record {
   ids = all_behind (λ (f : Fragment). f.id < 2 ^ 32) m.fragments fragment rules.ids fresh;
   rows = all_behind (λ (f : Fragment). f.rows < 2 ^ 31) m.fragments fragment rules.rows count;
   files = all_behind (λ (f : Fragment). All IsFile f.files) m.fragments fragment rules.files only;
-  greatest = fresh;
+  greatest = subst (λ o. IfSome o (λ id. id < 2 ^ 32)) (sym (fresh_is_greatest m)) fresh;
 } where
   fragment : Fragment
   fragment = new_fragment old m (length (row ∷ rows))

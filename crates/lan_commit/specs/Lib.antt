@@ -1,6 +1,10 @@
+pub mod Changes
 pub mod Commits
 pub mod Creates
+pub mod Failures
 pub mod First
+pub mod Greatest
 pub mod Limits
 pub mod Prepares
 pub mod Puts
+pub mod Stage

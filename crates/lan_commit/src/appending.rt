@@ -1,5 +1,5 @@
 // The objects of an append.
-ghost use Rattle.std.specs.Prelude.{◌≡◌, ◌<◌, ◌≤◌, ◌^◌, ◌+◌, ◌∷◌, ℕ, pos, [], length, map, ⊤, All, Some, None, IsErrOf, IfOk};
+ghost use Rattle.std.specs.Prelude.{◌≡◌, ◌<◌, ◌^◌, ◌+◌, ◌∷◌, pos, [], length, map, ⊤, All, None, IsErrOf, IfOk};
 ghost use Rattle.std.specs.Option.{ForSome};
 ghost use Rattle.lan_file.specs.Stage.{IsRequiredFixed};
 ghost use Rattle.lan_fresh.specs.Fresh.{file_path, fresh_fragment};
@@ -9,19 +9,23 @@ ghost use Rattle.lan_model.specs.Plain.{plain_field};
 ghost use Rattle.lan_model.specs.PlainTable.{row_of};
 ghost use Rattle.lan_model.specs.Table.{FitsRow};
 ghost use Rattle.lan_read.specs.Newest.{IsOpened};
-ghost use Rattle.lan_store.specs.Causes.{HasCause};
 ghost use Rattle.lan_store.specs.declared.name.Name.{Name};
 ghost use Rattle.lan_commit.specs.Limits.{version_limit, fragment_limit, bytes_limit};
 ghost use Rattle.lan_commit.specs.Prepares.{JudgesLimit, DrawsFile, PreparesAppend, StopsRightly};
-ghost use Rattle.lan_commit.specs.Puts.{file_object, next_version, next_with, puts_of};
+ghost use Rattle.lan_commit.specs.Puts.{file_object, next_version, next_with, file_and_manifest};
+ghost use Rattle.lan_store.specs.Budget.{nothing};
+ghost use Rattle.lan_store.specs.Looked.{Looked};
+ghost use Rattle.lan_commit.specs.Failures.{change_failure};
 
 use crate::committing::CommitFault;
+use crate::greatest::greatest_known;
 use crate::limits::Which;
 use crate::objects::{folder_of, manifest_alone, manifest_object, within_bytes};
 use lan_file::plain_file;
 use lan_fresh::{file_path, fresh_file, fresh_fragment};
 use lan_manifest::{DataFile, DataFiles, Fragment, Manifest};
 use lan_model::{Blob, Field, List, Rows};
+use lan_store::laws::looks_add_up;
 use lan_store::{Dir, ListFault, Name, Object, Store};
 use std::alloc::{AllocError, Global};
 
@@ -41,13 +45,11 @@ pub fn prepare_append<S: Store>(
 ) -> Result<Vec<Object>, CommitFault>
     requires opened { IsOpened (plain_manifest manifest) }
     requires fit { All (FitsRow (map plain_field manifest.fields)) (map row_of rows.now) }
-    ensures kept { S.objects store.new ≡ S.objects store.old }
-    ensures prepares { ForSome (S.objects store.old) (λ all. PreparesAppend all (plain_manifest manifest) (map row_of rows.now) result) }
+    ensures looked { Looked (change_failure result) nothing (S.tells store.old) (S.tells store.new) }
+    ensures prepares { ForSome (S.tells store.old).objects (λ all. PreparesAppend all (plain_manifest manifest) (map row_of rows.now) result) }
     ensures stops { StopsRightly result }
-    ensures faults { HasCause ((name : Name) × IsErrOf result (CommitFault.Store name)) (S.faults store.old) (S.faults store.new) }
-    ensures told { (name : Name) → IsErrOf result (CommitFault.Store name) → ForSome (S.objects store.old) (λ _. S.failed store.new ≡ Some name) }
-    ensures clashes { S.clashes store.old ≤ S.clashes store.new }
 {
+    looks_add_up();
     if rows.is_empty() {
         return version_alone(alloc, manifest);
     }
@@ -63,6 +65,7 @@ fn version_alone(alloc: Global, mut manifest: Manifest) -> Result<Vec<Object>, C
     ensures unfailing { (name : Name) → IsErrOf result (CommitFault.Store name) → ⊥ }
 {
     judge_version(&manifest)?;
+    manifest.greatest = greatest_known(&manifest);
     manifest.version += 1;
     within_bytes(manifest_alone(alloc, &manifest)?)
 }
@@ -96,13 +99,10 @@ fn judge_version(manifest: &Manifest) -> Result<(), CommitFault>
 
 // The number of a new data file.
 fn draw_file<S: Store>(alloc: Global, store: &mut S) -> Result<u64, CommitFault>
-    ensures kept { S.objects store.new ≡ S.objects store.old }
-    ensures draws { ForSome (S.objects store.old) (λ all. DrawsFile all result) }
+    ensures looked { Looked (change_failure result) nothing (S.tells store.old) (S.tells store.new) }
+    ensures draws { ForSome (S.tells store.old).objects (λ all. DrawsFile all result) }
     ensures below { IfOk result (λ number. number < 2 ^ 53) }
     ensures stops { StopsRightly result }
-    ensures faults { HasCause ((name : Name) × IsErrOf result (CommitFault.Store name)) (S.faults store.old) (S.faults store.new) }
-    ensures told { (name : Name) → IsErrOf result (CommitFault.Store name) → ForSome (S.objects store.old) (λ _. S.failed store.new ≡ Some name) }
-    ensures clashes { S.clashes store.old ≤ S.clashes store.new }
 {
     match fresh_file(alloc, store) {
         Ok(number) if number < PAST_NUMBERS => Ok(number),
@@ -125,7 +125,7 @@ fn objects_of(
     requires number { number < 2 ^ 53 }
     requires some { 0 < length rows.now }
     requires fit { All (FitsRow (map plain_field manifest.fields)) (map row_of rows.now) }
-    ensures { IfOk result (λ objects. objects.items ≡ puts_of number (plain_manifest manifest) (map row_of rows.now)) }
+    ensures { IfOk result (λ objects. objects.items ≡ file_and_manifest number (plain_manifest manifest) (map row_of rows.now)) }
 {
     let file = file_object(alloc, manifest.fields.at(0), number, rows)?;
     let next = next_manifest(alloc, manifest, number, rows.len())?;

@@ -1,9 +1,9 @@
 // The puts of a change.
-ghost use Rattle.std.specs.Prelude.{◌≡◌, ◌<◌, ℕ, length, slice_get, option_map, Some, IsErrOf};
-ghost use Rattle.std.specs.Option.{ForSome};
-ghost use Rattle.lan_store.specs.declared.name.Name.{Name};
-ghost use Rattle.lan_store.specs.Causes.{HasCause};
+ghost use Rattle.std.specs.Prelude.{◌≡◌, ◌<◌, length, slice_get, option_map, Some};
+ghost use Rattle.lan_store.specs.Budget.{nothing};
+ghost use Rattle.lan_store.specs.Looked.{Stored};
 ghost use Rattle.lan_commit.specs.Commits.{Commits};
+ghost use Rattle.lan_commit.specs.Failures.{change_failure, change_clashed};
 ghost use Rattle.lan_commit.specs.declared.committing.CommitFault.TheVariants.{Memory};
 
 use crate::limits::Which;
@@ -33,15 +33,13 @@ impl From<AllocError> for CommitFault {
 }
 
 /// Puts the objects of a change in their order, its manifest last.
-pub fn commit<S: Store>(
+pub fn put_change<S: Store>(
     alloc: Global,
     store: &mut S,
     objects: Vec<Object>,
 ) -> Result<(), CommitFault>
-    ensures commits { Commits objects.items (S.objects store.old) (S.objects store.new) result }
-    ensures faults { HasCause ((name : Name) × IsErrOf result (CommitFault.Store name)) (S.faults store.old) (S.faults store.new) }
-    ensures told { (name : Name) → IsErrOf result (CommitFault.Store name) → ForSome (S.objects store.old) (λ _. S.failed store.new ≡ Some name) }
-    ensures clashes { HasCause ((name : Name) × IsErrOf result (CommitFault.Raced name)) (S.clashes store.old) (S.clashes store.new) }
+    ensures commits { Commits objects.items (S.tells store.old).objects (S.tells store.new).objects result }
+    ensures stored { Stored (change_failure result) nothing (change_clashed result) (S.tells store.old) (S.tells store.new) }
 {
     match put_all(alloc, store, objects.as_slice()) {
         Ok(()) => Ok(()),

@@ -1,30 +1,31 @@
 // A new dataset.
-ghost use Rattle.std.specs.Prelude.{◌≡◌, ◌≤◌, ◌∷◌, ℕ, [], map, Some, IsErrOf};
-ghost use Rattle.std.specs.Option.{ForSome};
+ghost use Rattle.std.specs.Prelude.{◌≡◌, ◌∷◌, [], map, IsErrOf};
 ghost use Rattle.lan_model.specs.Plain.{plain_field};
 ghost use Rattle.lan_store.specs.declared.name.Name.{Name};
-ghost use Rattle.lan_store.specs.Causes.{HasCause};
+ghost use Rattle.lan_store.specs.Budget.{nothing};
+ghost use Rattle.lan_store.specs.Looked.{Looked, Stored};
 ghost use Rattle.lan_commit.specs.Creates.{Creates, PreparesCreate};
 ghost use Rattle.lan_commit.specs.First.{first_object, first_limit};
+ghost use Rattle.lan_commit.specs.Failures.{change_failure, change_clashed};
 ghost use Rattle.lan_commit.specs.Prepares.{JudgesLimit};
 
-use crate::committing::{CommitFault, commit};
+use crate::committing::{CommitFault, put_change};
 use crate::objects::{folder_of, manifest_alone, within_bytes};
 use lan_manifest::{Fragments, Manifest};
 use lan_model::FieldList;
 use lan_read::newest_version;
+use lan_store::laws::puts_follow_looks;
 use lan_store::{Dir, ListFault, Name, Object, Store};
 use std::alloc::Global;
 
 /// Creates a dataset of these fields without rows, and answers its version.
 pub fn create<S: Store>(alloc: Global, store: &mut S, fields: FieldList) -> Result<u64, CommitFault>
-    ensures creates { Creates (map plain_field fields) (S.objects store.old) (S.objects store.new) result }
-    ensures faults { HasCause ((name : Name) × IsErrOf result (CommitFault.Store name)) (S.faults store.old) (S.faults store.new) }
-    ensures told { (name : Name) → IsErrOf result (CommitFault.Store name) → ForSome (S.objects store.old) (λ _. S.failed store.new ≡ Some name) }
-    ensures clashes { HasCause ((name : Name) × IsErrOf result (CommitFault.Raced name)) (S.clashes store.old) (S.clashes store.new) }
+    ensures creates { Creates (map plain_field fields) (S.tells store.old).objects (S.tells store.new).objects result }
+    ensures stored { Stored (change_failure result) nothing (change_clashed result) (S.tells store.old) (S.tells store.new) }
 {
+    puts_follow_looks();
     let objects = prepare_create(alloc, store, fields)?;
-    match commit(alloc, store, objects) {
+    match put_change(alloc, store, objects) {
         Ok(()) => Ok(1),
         Err(fault) => Err(fault),
     }
@@ -36,11 +37,8 @@ pub fn prepare_create<S: Store>(
     store: &mut S,
     fields: FieldList,
 ) -> Result<Vec<Object>, CommitFault>
-    ensures kept { S.objects store.new ≡ S.objects store.old }
-    ensures prepares { PreparesCreate (map plain_field fields) (S.objects store.old) result }
-    ensures faults { HasCause ((name : Name) × IsErrOf result (CommitFault.Store name)) (S.faults store.old) (S.faults store.new) }
-    ensures told { (name : Name) → IsErrOf result (CommitFault.Store name) → ForSome (S.objects store.old) (λ _. S.failed store.new ≡ Some name) }
-    ensures clashes { S.clashes store.old ≤ S.clashes store.new }
+    ensures looked { Looked (change_failure result) nothing (S.tells store.old) (S.tells store.new) }
+    ensures prepares { PreparesCreate (map plain_field fields) (S.tells store.old).objects result }
 {
     match newest_version(alloc, store) {
         Ok(None) => first_objects(alloc, fields),

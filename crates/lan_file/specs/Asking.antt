@@ -1,9 +1,6 @@
--- What calls on a store do to it, and what is read of an object.
-use Rattle.std.specs.Prelude.{◌≡◌, ℕ, ◌+◌, ◌<◌, ◌≤◌, ⊤, List, length, IsSomeAnd, Option, None, Result, Ok, Err}
-use Rattle.lan_store.specs.Causes.{HasCause, RoseAtMost}
-use Rattle.lan_store.specs.Objects.{TellsFailed}
+-- What is read of an object, and where the store fails.
+use Rattle.std.specs.Prelude.{◌≡◌, ℕ, ◌+◌, ◌<◌, ◌≤◌, ⊤, List, length, IsSomeAnd, Option, Some, None, Result, Ok, Err}
 use Rattle.lan_store.specs.declared.name.Name.{Name}
-use Rattle.lan_store.specs.declared.name.Object.{Object}
 use Rattle.lan_model.specs.Plain.{PlainField}
 use Rattle.lan_file.specs.declared.fault.FileFault.{FileFault}
 use Rattle.lan_file.specs.declared.fault.FileFault.TheVariants as fault
@@ -11,13 +8,14 @@ use Rattle.lan_file.specs.declared.fault.FileReason.TheVariants as reason
 use Rattle.lan_file.specs.Parts.{part}
 use Rattle.lan_file.specs.Reasons.{IsSmall, Breaks}
 
--- at most so many ranges of the named object were asked, and no call failed but where this was answered
-pub record Asked {S : Type 0} (objects : S → Option (List Object)) (failed : S → Option Name) (faults ranges_of clashes_of : S → ℕ) (name : Name) (ranges : ℕ) (Failed : Type 0) (old new : S) : Type 0 where
-  pub kept : objects new ≡ objects old
-  pub cause : HasCause Failed (faults old) (faults new)
-  pub told : TellsFailed (objects old) Failed name (failed old) (failed new)
-  pub gets : RoseAtMost ranges (ranges_of old) (ranges_of new)
-  pub clashes : clashes_of old ≤ clashes_of new
+-- the name at which the store failed, by what was answered of the object of this name
+abbrev pub fault_failure : Name → FileFault → Option Name
+fault_failure name fault.Store = Some name
+fault_failure name other = None
+
+abbrev pub file_failure : {A : Type 0} → Name → Result A FileFault → Option Name
+file_failure name (Ok answer) = None
+file_failure name (Err fault) = fault_failure name fault
 
 -- the answer's fact holds of the object's bytes, or its fault's reason stands
 abbrev pub Reads : {A : Type 0} → List (PlainField ℕ) → ℕ → (List ℕ → A → Type 0) → Option (List ℕ) → Result A FileFault → Type 0

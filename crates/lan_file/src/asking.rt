@@ -1,9 +1,11 @@
 // The calls on the store, with faults of this crate.
-ghost use Rattle.std.specs.Prelude.{◌≡◌, ℕ, ◌+◌, ◌^◌, ◌≤◌, List, length, IsErrOf, IfOk};
+ghost use Rattle.std.specs.Prelude.{◌≡◌, ℕ, ◌+◌, ◌^◌, ◌≤◌, List, length, IfOk};
 ghost use Rattle.std.specs.Option.{ForSome};
 ghost use Rattle.lan_model.specs.Plain.{PlainField};
+ghost use Rattle.lan_store.specs.Budget.{nothing, range};
+ghost use Rattle.lan_store.specs.Looked.{Looked};
 ghost use Rattle.lan_store.specs.Objects.{object};
-ghost use Rattle.lan_file.specs.Asking.{Asked, Reads, IsSizeOf, IsPartOf};
+ghost use Rattle.lan_file.specs.Asking.{file_failure, Reads, IsSizeOf, IsPartOf};
 
 use crate::fault::{FileFault, FileReason};
 use lan_model::Blob;
@@ -15,8 +17,8 @@ const LIMIT: u64 = 1 << 30;
 
 // The object's length in bytes.
 pub fn size_of<S: Store>(alloc: Global, store: &mut S, name: &Name) -> Result<u64, FileFault>
-    ensures asked { Asked S.objects S.failed S.faults S.gets S.clashes name.now 0 (IsErrOf result FileFault.Store) store.old store.new }
-    ensures answer { ForSome (S.objects store.old) (λ all. (fields : List (PlainField ℕ)) (rows : ℕ) → Reads fields rows IsSizeOf (object all name.now) result) }
+    ensures looked { Looked (file_failure name.now result) nothing (S.tells store.old) (S.tells store.new) }
+    ensures answer { ForSome (S.tells store.old).objects (λ all. (fields : List (PlainField ℕ)) (rows : ℕ) → Reads fields rows IsSizeOf (object all name.now) result) }
     ensures small { IfOk result (λ size. size ≤ 2 ^ 30) }
 {
     match store.size(alloc, name) {
@@ -41,8 +43,8 @@ pub fn fetch<S: Store>(
     len: u64,
 ) -> Result<Blob, FileFault>
     requires { at + len ≤ 2 ^ 63 }
-    ensures asked { Asked S.objects S.failed S.faults S.gets S.clashes name.now 1 (IsErrOf result FileFault.Store) store.old store.new }
-    ensures answer { ForSome (S.objects store.old) (λ all. IsPartOf (object all name.now) at len result) }
+    ensures looked { Looked (file_failure name.now result) (range len) (S.tells store.old) (S.tells store.new) }
+    ensures answer { ForSome (S.tells store.old).objects (λ all. IsPartOf (object all name.now) at len result) }
     ensures length { IfOk result (λ found. length found ≡ len) }
 {
     let mut part = Blob::new(alloc);

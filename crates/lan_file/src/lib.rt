@@ -3,7 +3,7 @@
 
 mod asking;
 mod fault;
-mod laws;
+pub mod laws;
 mod opening;
 mod page;
 mod reading;
@@ -14,6 +14,5 @@ mod widths;
 mod writing;
 
 pub use fault::{FileFault, FileReason};
-pub use laws::{files_hold_one_list, held_rows_have_no_reason, written_files_hold_their_rows};
 pub use reading::read_plain;
 pub use writing::plain_file;

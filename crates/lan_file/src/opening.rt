@@ -1,9 +1,11 @@
 // Opening a file: its tail, its tables, and where the parts lie that they name.
-ghost use Rattle.std.specs.Prelude.{◌≡◌, ℕ, ◌+◌, ◌*◌, ◌-◌, ◌^◌, ◌<◌, ◌≤◌, ◌↔◌, List, length, drop, codes, IsTrue, IsErrOf, IfOk};
+ghost use Rattle.std.specs.Prelude.{◌≡◌, ℕ, ◌+◌, ◌*◌, ◌-◌, ◌^◌, ◌<◌, ◌≤◌, ◌↔◌, List, length, drop, codes, IsTrue, IfOk};
 ghost use Rattle.std.specs.Option.{ForSome};
 ghost use Rattle.lan_model.specs.Plain.{PlainField};
+ghost use Rattle.lan_store.specs.Budget.{range, ranges};
+ghost use Rattle.lan_store.specs.Looked.{Looked};
 ghost use Rattle.lan_store.specs.Objects.{object};
-ghost use Rattle.lan_file.specs.Asking.{Asked, Reads};
+ghost use Rattle.lan_file.specs.Asking.{file_failure, Reads};
 ghost use Rattle.lan_file.specs.Opening.{JudgesTail, IsOpened, IsHead, IsWithin};
 ghost use Rattle.lan_file.specs.Parts.{part, extent_in, InOrder, LieWithin};
 
@@ -12,6 +14,7 @@ use crate::fault::{FileFault, FileReason};
 use crate::tail::{Extent, Footer};
 use lan_bytes::View;
 use lan_model::Blob;
+use lan_store::laws::looks_add_up;
 use lan_store::{Name, Store};
 use std::alloc::Global;
 
@@ -85,10 +88,11 @@ fn judge_tail(size: u64, tail: &[u8]) -> Result<Footer, FileFault>
 }
 
 fn open<S: Store>(alloc: Global, store: &mut S, name: &Name) -> Result<Opened, FileFault>
-    ensures asked { Asked S.objects S.failed S.faults S.gets S.clashes name.now 1 (IsErrOf result FileFault.Store) store.old store.new }
-    ensures answer { ForSome (S.objects store.old) (λ all. (fields : List (PlainField ℕ)) (rows : ℕ) → Reads fields rows IsOpened (object all name.now) result) }
+    ensures looked { Looked (file_failure name.now result) (range 40) (S.tells store.old) (S.tells store.new) }
+    ensures answer { ForSome (S.tells store.old).objects (λ all. (fields : List (PlainField ℕ)) (rows : ℕ) → Reads fields rows IsOpened (object all name.now) result) }
     ensures tables { IfOk result (λ o. (o.size ≤ 2 ^ 30) × InOrder o.size o.footer) }
 {
+    looks_add_up();
     let size = size_of(alloc, store, name)?;
     if size < 40 {
         return Err(FileFault::Outside(FileReason::TooShort, size));
@@ -114,10 +118,11 @@ fn first_entry(view: &View<'_>, at: u64, count: u32) -> Extent
 
 /// Reads the file's tail and its tables, in two ranges.
 pub fn read_head<S: Store>(alloc: Global, store: &mut S, name: &Name) -> Result<Head, FileFault>
-    ensures asked { Asked S.objects S.failed S.faults S.gets S.clashes name.now 2 (IsErrOf result FileFault.Store) store.old store.new }
-    ensures answer { ForSome (S.objects store.old) (λ all. (fields : List (PlainField ℕ)) (rows : ℕ) → Reads fields rows IsHead (object all name.now) result) }
+    ensures looked { Looked (file_failure name.now result) (ranges 2) (S.tells store.old) (S.tells store.new) }
+    ensures answer { ForSome (S.tells store.old).objects (λ all. (fields : List (PlainField ℕ)) (rows : ℕ) → Reads fields rows IsHead (object all name.now) result) }
     ensures within { IfOk result IsWithin }
 {
+    looks_add_up();
     let opened = open(alloc, store, name)?;
     let footer = opened.footer;
     let first = footer.columns_at;

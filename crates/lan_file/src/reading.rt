@@ -1,9 +1,10 @@
-ghost use Rattle.std.specs.Prelude.{◌≡◌, ℕ, ◌+◌, ◌*◌, ◌-◌, ◌^◌, ◌<◌, ◌≤◌, [], ◌∷◌, length, IsErrOf, IfOk};
+ghost use Rattle.std.specs.Prelude.{◌≡◌, ℕ, ◌+◌, ◌*◌, ◌-◌, ◌^◌, ◌<◌, ◌≤◌, [], ◌∷◌, length, IfOk};
 ghost use Rattle.std.specs.Option.{ForSome};
 ghost use Rattle.lan_model.specs.Plain.{plain_field};
-ghost use Rattle.lan_store.specs.Causes.{HasCause, RoseAtMost};
-ghost use Rattle.lan_store.specs.Objects.{object, TellsFailed};
-ghost use Rattle.lan_file.specs.Asking.{Asked, Reads};
+ghost use Rattle.lan_store.specs.Budget.{ranges};
+ghost use Rattle.lan_store.specs.Looked.{Looked};
+ghost use Rattle.lan_store.specs.Objects.{object};
+ghost use Rattle.lan_file.specs.Asking.{file_failure, Reads};
 ghost use Rattle.lan_file.specs.Opening.{IsWithin, JudgesPlain, StatesRows, column_in};
 ghost use Rattle.lan_file.specs.Reasons.{GivesRows};
 ghost use Rattle.lan_file.specs.Stage.{IsRequiredFixed};
@@ -17,6 +18,7 @@ use crate::stating::plain_rows;
 use crate::widths::column_size;
 use lan_bytes::View;
 use lan_model::{Field, Rows};
+use lan_store::laws::looks_add_up;
 use lan_store::{Name, Store};
 use std::alloc::Global;
 
@@ -67,10 +69,11 @@ fn read_stated<S: Store>(
     field: &Field,
 ) -> Result<u64, FileFault>
     requires { IsRequiredFixed (plain_field field.now) }
-    ensures asked { Asked S.objects S.failed S.faults S.gets S.clashes name.now 3 (IsErrOf result FileFault.Store) store.old store.new }
-    ensures answer { ForSome (S.objects store.old) (λ all. (rows : ℕ) → Reads (plain_field field.now ∷ []) rows (StatesRows (plain_field field.now ∷ [])) (object all name.now) result) }
+    ensures looked { Looked (file_failure name.now result) (ranges 3) (S.tells store.old) (S.tells store.new) }
+    ensures answer { ForSome (S.tells store.old).objects (λ all. (rows : ℕ) → Reads (plain_field field.now ∷ []) rows (StatesRows (plain_field field.now ∷ [])) (object all name.now) result) }
     ensures page { IfOk result (λ rows. column_size (plain_field field.now ∷ []) * rows ≤ 2 ^ 30) }
 {
+    looks_add_up();
     let head = read_head(alloc, store, name)?;
     let footer = head.footer;
     if footer.globals == 0 {
@@ -101,16 +104,12 @@ pub fn read_plain<S: Store>(
     requires { IsRequiredFixed (plain_field field.now) }
 
     // The object holds these rows, or the reason stands in it at the place.
-    ensures answer { ForSome (S.objects store.old) (λ all. Reads (plain_field field.now ∷ []) rows (GivesRows (plain_field field.now ∷ []) rows) (object all name.now) result) }
+    ensures answer { ForSome (S.tells store.old).objects (λ all. Reads (plain_field field.now ∷ []) rows (GivesRows (plain_field field.now ∷ []) rows) (object all name.now) result) }
 
-    // The store's objects stay, and it failed where this is answered.
-    ensures kept { S.objects store.new ≡ S.objects store.old }
-    ensures cause { HasCause (IsErrOf result FileFault.Store) (S.faults store.old) (S.faults store.new) }
-    ensures told { TellsFailed (S.objects store.old) (IsErrOf result FileFault.Store) name.now (S.failed store.old) (S.failed store.new) }
-
-    ensures ranges { RoseAtMost 4 (S.gets store.old) (S.gets store.new) }
-    ensures clashes { S.clashes store.old ≤ S.clashes store.new }
+    // The store's objects stay, and at most four ranges were asked.
+    ensures looked { Looked (file_failure name.now result) (ranges 4) (S.tells store.old) (S.tells store.new) }
 {
+    looks_add_up();
     let stated = read_stated(alloc, store, name, field)?;
     if stated != rows {
         return Err(FileFault::Outside(FileReason::Rows(stated, rows), 0));

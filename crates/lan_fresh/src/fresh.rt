@@ -1,9 +1,9 @@
 ghost use Rattle.std.specs.Prelude.{◌≡◌, ℕ, [], ◌++◌, map, codes, ◌^◌, ◌<◌, ◌≤◌, IfOk, IsErrOf};
 ghost use Rattle.std.specs.Option.{ForSome};
-ghost use Rattle.lan_store.specs.Causes.{HasCause};
-ghost use Rattle.lan_store.specs.Objects.{TellsFailed};
 ghost use Rattle.lan_manifest.specs.Manifests.{plain_manifest};
 ghost use Rattle.lan_fresh.specs.Fresh.{above, greatest_of, numbers_of, fresh_fragment, file_path, file_number, fresh_file};
+ghost use Rattle.lan_store.specs.Budget.{nothing};
+ghost use Rattle.lan_store.specs.Looked.{Looked, list_failure};
 
 use lan_manifest::{Fragment, Manifest};
 use lan_model::Text;
@@ -94,13 +94,9 @@ fn above_files(names: &[Name]) -> u64
 ///
 /// A name in the folder that is no number's path doesn't count.
 pub fn fresh_file<S: Store>(alloc: Global, store: &mut S) -> Result<u64, ListFault>
-    ensures kept { S.objects store.new ≡ S.objects store.old }
-    ensures fresh { ForSome (S.objects store.old) (λ all. IfOk result (λ n. n ≡ fresh_file all)) }
+    ensures looked { Looked (list_failure Dir.Data result) nothing (S.tells store.old) (S.tells store.new) }
+    ensures fresh { ForSome (S.tells store.old).objects (λ all. IfOk result (λ n. n ≡ fresh_file all)) }
     ensures range { IfOk result (λ n. (1 ≤ n) × (n ≤ 2 ^ 53)) }
-    ensures cause { HasCause (IsErrOf result ListFault.Failed) (S.faults store.old) (S.faults store.new) }
-    ensures told { TellsFailed (S.objects store.old) (IsErrOf result ListFault.Failed) (record { dir = Dir.Data; rest = [] }) (S.failed store.old) (S.failed store.new) }
-    ensures ranges { (S.gets store.new ≡ S.gets store.old) × (S.got store.new ≡ S.got store.old) }
-    ensures clashes { S.clashes store.old ≤ S.clashes store.new }
 {
     let mut names = Names::new(alloc);
     store.list(alloc, Dir::Data, &mut names)?;

@@ -3,9 +3,9 @@ ghost use Rattle.std.specs.Prelude.{IsTrue, All, Contains, IsErrOf, List, [], So
 ghost use Rattle.std.specs.Option.{ForSome};
 ghost use Rattle.std.specs.Ordering.{nat_cmp};
 ghost use Rattle.std.specs.BTreeSet.{contains};
-ghost use Rattle.lan_store.specs.Causes.{HasCause};
-ghost use Rattle.lan_store.specs.Objects.{TellsFailed};
 ghost use Rattle.lan_manifest.specs.Versions.{IsVersion, manifest_name, AreVersionsOf, AreListed};
+ghost use Rattle.lan_store.specs.Budget.{nothing};
+ghost use Rattle.lan_store.specs.Looked.{Looked, list_failure};
 
 use lan_model::{Nums, number_of};
 use lan_store::{Dir, ListFault, Name, Names, Store};
@@ -41,13 +41,9 @@ pub fn name_of_version(alloc: Global, version: u64) -> Result<Name, AllocError>
 
 /// The listed versions, rising.
 pub fn list_versions<S: Store>(alloc: Global, store: &mut S) -> Result<Nums, ListFault>
-    ensures kept { S.objects store.new ≡ S.objects store.old }
-    ensures versions { ForSome (S.objects store.old) (λ all. IfOk result (AreListed all)) }
+    ensures looked { Looked (list_failure Dir.Versions result) nothing (S.tells store.old) (S.tells store.new) }
+    ensures versions { ForSome (S.tells store.old).objects (λ all. IfOk result (AreListed all)) }
     ensures range { IfOk result (All IsVersion) }
-    ensures cause { HasCause (IsErrOf result ListFault.Failed) (S.faults store.old) (S.faults store.new) }
-    ensures told { TellsFailed (S.objects store.old) (IsErrOf result ListFault.Failed) (record { dir = Dir.Versions; rest = [] }) (S.failed store.old) (S.failed store.new) }
-    ensures ranges { (S.gets store.new ≡ S.gets store.old) × (S.got store.new ≡ S.got store.old) }
-    ensures clashes { S.clashes store.old ≤ S.clashes store.new }
 {
     let mut names = Names::new(alloc);
     store.list(alloc, Dir::Versions, &mut names)?;

@@ -6,7 +6,7 @@ use Rattle.std.proofs.lemmas.Option.{slice_get-get_or}
 use Rattle.std.proofs.lemmas.List.{get_or_default}
 use Rattle.std.proofs.lemmas.Map.Keys.{sorted_from_strictly_increasing, below_from_sorted}
 use Rattle.lan_store.specs.declared.name.Object.{Object}
-use Rattle.lan_manifest.specs.Versions.{IsNewest, AreListed}
+use Rattle.lan_manifest.specs.Versions.{IsNewest, AreListed, NoneListed}
 use Rattle.lan_read.specs.Newest.{IsNewestOf}
 
 -- the last of the listed versions is the newest
@@ -30,3 +30,8 @@ newest_is old versions version listed is = same (slice_get versions (length vers
   same : (o : Option ℕ) → IsNewestOf old o → o ≡ Some version
   same None none = absurd (none version is.listed)
   same (Some other) other_is = let e : other ≡ version = omega (arith, is.newest other other_is.listed, other_is.newest version is.listed) in ap (λ n. Some n) e
+
+-- where none is listed there is no last
+pub none_is : (old : List Object) (versions : List ℕ) → AreListed old versions → NoneListed old → versions ≡ []
+none_is old [] listed none = refl
+none_is old (v ∷ vs) listed none = absurd (none v (listed.only 0 v (omega arith)))

@@ -1,3 +1,4 @@
+pub mod Failures
 pub mod Fragments
 pub mod Newest
 pub mod Opens

@@ -7,14 +7,14 @@ use lan_store::Name;
 use std::alloc::AllocError;
 
 /// Why an object is no manifest that is read.
-#[derive(Clone, Copy, Debug)]
+#[derive(Debug, Drop)]
 pub enum ManifestReason {
     /// It isn't in the writer's own spelling; at 0.
     Plain,
 }
 
 /// Why a stored object is outside of what is read. The first three are a manifest's.
-#[derive(Clone, Copy, Debug)]
+#[derive(Debug, Drop)]
 pub enum Reason {
     /// No object of the name is held; at 0.
     Missing,
@@ -27,7 +27,7 @@ pub enum Reason {
     File(FileReason),
 }
 
-/// Why the newest version isn't opened.
+/// Why a version isn't read.
 #[derive(Debug, Drop)]
 pub enum ReadFault {
     /// No version is listed.

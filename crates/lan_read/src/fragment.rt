@@ -1,16 +1,18 @@
 // The rows of a fragment.
-ghost use Rattle.std.specs.Prelude.{◌≡◌, ◌≤◌, Some, IsErrOf, map};
+ghost use Rattle.std.specs.Prelude.{map};
 ghost use Rattle.std.specs.Option.{ForSome};
-ghost use Rattle.lan_store.specs.declared.name.Name.{Name};
-ghost use Rattle.lan_store.specs.Causes.{HasCause};
 ghost use Rattle.lan_model.specs.Plain.{plain_field};
 ghost use Rattle.lan_manifest.specs.Stage.{IsOneColumn, IsOneFile};
 ghost use Rattle.lan_read.specs.Fragments.{ReadsFragment};
+ghost use Rattle.lan_store.specs.Budget.{ranges};
+ghost use Rattle.lan_store.specs.Looked.{Looked};
+ghost use Rattle.lan_read.specs.Failures.{fragment_failure};
 
 use crate::fault::FragmentFault;
 use lan_file::{FileFault, read_plain};
 use lan_manifest::Fragment;
 use lan_model::{FieldList, Rows};
+use lan_store::laws::looks_add_up;
 use lan_store::{Dir, Name, Store};
 use std::alloc::Global;
 
@@ -23,12 +25,10 @@ pub fn read_fragment<S: Store>(
 ) -> Result<Rows, FragmentFault>
     requires column { IsOneColumn (map plain_field fields.now) }
     requires file { IsOneFile fragment.now }
-    ensures kept { S.objects store.new ≡ S.objects store.old }
-    ensures reads { ForSome (S.objects store.old) (λ all. ReadsFragment all (map plain_field fields.now) fragment.now result) }
-    ensures cause { HasCause ((name : Name) × IsErrOf result (FragmentFault.Store name)) (S.faults store.old) (S.faults store.new) }
-    ensures told { (name : Name) → IsErrOf result (FragmentFault.Store name) → ForSome (S.objects store.old) (λ _. S.failed store.new ≡ Some name) }
-    ensures clashes { S.clashes store.old ≤ S.clashes store.new }
+    ensures looked { Looked (fragment_failure result) (ranges 4) (S.tells store.old) (S.tells store.new) }
+    ensures reads { ForSome (S.tells store.old).objects (λ all. ReadsFragment all (map plain_field fields.now) fragment.now result) }
 {
+    looks_add_up();
     let field = fields.at(0);
     let file = fragment.files.at(0);
     let name = Name::of(alloc, Dir::Data, file.path.as_str())?;

@@ -3,11 +3,10 @@
 
 mod fault;
 mod fragment;
-mod laws;
+pub mod laws;
 mod object;
 mod opening;
 
 pub use fault::{FragmentFault, ManifestReason, ReadFault, Reason};
 pub use fragment::read_fragment;
-pub use laws::{one_table, reasons_are_against_tables, tables_stay};
 pub use opening::{newest_version, open_newest};

@@ -1,11 +1,13 @@
 // Whole objects.
-ghost use Rattle.std.specs.Prelude.{◌≡◌, ◌≤◌, IsErrOf};
 ghost use Rattle.std.specs.Option.{ForSome};
-ghost use Rattle.lan_store.specs.Causes.{HasCause};
-ghost use Rattle.lan_store.specs.Objects.{object, TellsFailed};
+ghost use Rattle.lan_store.specs.Objects.{object};
 ghost use Rattle.lan_read.specs.Opens.{ObjectIs};
+ghost use Rattle.lan_store.specs.Budget.{ranges};
+ghost use Rattle.lan_store.specs.Looked.{Looked};
+ghost use Rattle.lan_read.specs.Failures.{object_failure};
 
 use lan_model::Blob;
+use lan_store::laws::looks_add_up;
 use lan_store::{GetFault, Name, SizeFault, Store};
 use std::alloc::Global;
 
@@ -25,12 +27,10 @@ pub enum ObjectFault {
 
 /// The bytes of a whole object.
 pub fn read_object<S: Store>(alloc: Global, store: &mut S, name: &Name) -> Result<Blob, ObjectFault>
-    ensures kept { S.objects store.new ≡ S.objects store.old }
-    ensures answer { ForSome (S.objects store.old) (λ all. ObjectIs (object all name.now) result) }
-    ensures cause { HasCause (IsErrOf result ObjectFault.Failed) (S.faults store.old) (S.faults store.new) }
-    ensures told { TellsFailed (S.objects store.old) (IsErrOf result ObjectFault.Failed) name.now (S.failed store.old) (S.failed store.new) }
-    ensures clashes { S.clashes store.old ≤ S.clashes store.new }
+    ensures looked { Looked (object_failure name.now result) (ranges 1) (S.tells store.old) (S.tells store.new) }
+    ensures answer { ForSome (S.tells store.old).objects (λ all. ObjectIs (object all name.now) result) }
 {
+    looks_add_up();
     let size = match store.size(alloc, name) {
         Ok(size) => size,
         Err(SizeFault::Missing) => return Err(ObjectFault::Missing),

@@ -1,30 +1,28 @@
 // The newest version, and its manifest.
-ghost use Rattle.std.specs.Prelude.{◌≡◌, ◌≤◌, ℕ, [], Some, IsErrOf, IfOk, IfSome};
+ghost use Rattle.std.specs.Prelude.{IfOk, IfSome};
 ghost use Rattle.std.specs.Option.{ForSome};
-ghost use Rattle.lan_store.specs.declared.name.Name.{Name};
-ghost use Rattle.lan_store.specs.Causes.{HasCause};
-ghost use Rattle.lan_store.specs.Objects.{TellsFailed};
 ghost use Rattle.lan_manifest.specs.Manifests.{plain_manifest};
 ghost use Rattle.lan_manifest.specs.Versions.{IsVersion};
 ghost use Rattle.lan_read.specs.Newest.{IsNewestOf, IsOpened};
 ghost use Rattle.lan_read.specs.Opens.{OpensNewest, OpensVersion, ManifestIn};
+ghost use Rattle.lan_store.specs.Budget.{nothing, ranges};
+ghost use Rattle.lan_store.specs.Looked.{Looked, list_failure};
+ghost use Rattle.lan_read.specs.Failures.{read_failure};
 
 use crate::fault::{ManifestReason, ReadFault, Reason};
 use crate::object::{ObjectFault, read_object};
 use lan_bytes::View;
 use lan_manifest::{Manifest, ManifestFault, list_versions, name_of_version, read_manifest};
 use lan_model::{Blob, Text};
+use lan_store::laws::looks_add_up;
 use lan_store::{Dir, ListFault, Name, Store};
 use std::alloc::Global;
 
 /// The newest listed version.
 pub fn newest_version<S: Store>(alloc: Global, store: &mut S) -> Result<Option<u64>, ListFault>
-    ensures kept { S.objects store.new ≡ S.objects store.old }
-    ensures newest { ForSome (S.objects store.old) (λ all. IfOk result (IsNewestOf all)) }
+    ensures looked { Looked (list_failure Dir.Versions result) nothing (S.tells store.old) (S.tells store.new) }
+    ensures newest { ForSome (S.tells store.old).objects (λ all. IfOk result (IsNewestOf all)) }
     ensures version { IfOk result (λ newest. IfSome newest IsVersion) }
-    ensures cause { HasCause (IsErrOf result ListFault.Failed) (S.faults store.old) (S.faults store.new) }
-    ensures told { TellsFailed (S.objects store.old) (IsErrOf result ListFault.Failed) (record { dir = Dir.Versions; rest = [] }) (S.failed store.old) (S.failed store.new) }
-    ensures clashes { S.clashes store.old ≤ S.clashes store.new }
 {
     let versions = list_versions(alloc, store)?;
     Ok(versions.as_slice().last().copied())
@@ -32,13 +30,11 @@ pub fn newest_version<S: Store>(alloc: Global, store: &mut S) -> Result<Option<u
 
 /// The manifest of the newest version.
 pub fn open_newest<S: Store>(alloc: Global, store: &mut S) -> Result<Manifest, ReadFault>
-    ensures kept { S.objects store.new ≡ S.objects store.old }
-    ensures opens { ForSome (S.objects store.old) (λ all. OpensNewest all result) }
+    ensures looked { Looked (read_failure result) (ranges 1) (S.tells store.old) (S.tells store.new) }
+    ensures opens { ForSome (S.tells store.old).objects (λ all. OpensNewest all result) }
     ensures opened { IfOk result (λ m. IsOpened (plain_manifest m)) }
-    ensures cause { HasCause ((name : Name) × IsErrOf result (ReadFault.Store name)) (S.faults store.old) (S.faults store.new) }
-    ensures told { (name : Name) → IsErrOf result (ReadFault.Store name) → ForSome (S.objects store.old) (λ _. S.failed store.new ≡ Some name) }
-    ensures clashes { S.clashes store.old ≤ S.clashes store.new }
 {
+    looks_add_up();
     match newest_version(alloc, store) {
         Ok(Some(version)) => open_version(alloc, store, version),
         Ok(None) => Err(ReadFault::NoDataset),
@@ -53,13 +49,11 @@ pub fn open_newest<S: Store>(alloc: Global, store: &mut S) -> Result<Manifest, R
 // The manifest of a version.
 fn open_version<S: Store>(alloc: Global, store: &mut S, version: u64) -> Result<Manifest, ReadFault>
     requires { IsVersion version }
-    ensures kept { S.objects store.new ≡ S.objects store.old }
-    ensures opens { ForSome (S.objects store.old) (λ all. OpensVersion all version result) }
+    ensures looked { Looked (read_failure result) (ranges 1) (S.tells store.old) (S.tells store.new) }
+    ensures opens { ForSome (S.tells store.old).objects (λ all. OpensVersion all version result) }
     ensures opened { IfOk result (λ m. IsOpened (plain_manifest m)) }
-    ensures cause { HasCause ((name : Name) × IsErrOf result (ReadFault.Store name)) (S.faults store.old) (S.faults store.new) }
-    ensures told { (name : Name) → IsErrOf result (ReadFault.Store name) → ForSome (S.objects store.old) (λ _. S.failed store.new ≡ Some name) }
-    ensures clashes { S.clashes store.old ≤ S.clashes store.new }
 {
+    looks_add_up();
     let name = name_of_version(alloc, version)?;
     match read_object(alloc, store, &name) {
         Ok(bytes) => manifest_in(alloc, bytes, version, name),

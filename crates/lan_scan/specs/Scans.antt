@@ -19,6 +19,11 @@ use Rattle.lan_scan.specs.declared.scanning.ScanFault.TheVariants.{Outside, Stor
 abbrev pub text_of : List (PlainField ℕ) → List (List PlainValue) → List ℕ
 text_of fields rows = flat_map (line_of (map unnumbered fields)) rows
 
+-- the name at which the store failed
+abbrev pub scan_failure : {A : Type 0} → Result A ScanFault → Option Name
+scan_failure (Err (Store name)) = Some name
+scan_failure result = None
+
 -- the reason stands in a data file of one of the fragments
 pub record StandsInOne (objects : List Object) (m : PlainManifest) (name : Name) (why : FileReason) (place : ℕ) : Type 0 where
   pub fragment : Fragment

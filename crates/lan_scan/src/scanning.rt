@@ -1,8 +1,9 @@
 // The rows of a version, fragment by fragment.
-ghost use Rattle.std.specs.Prelude.{◌≡◌, ◌≤◌, ℕ, List, [], flat_map, Some, All, IsErrOf, map};
+ghost use Rattle.std.specs.Prelude.{◌≡◌, ◌*◌, List, [], length, flat_map, All, IsErrOf, map};
 ghost use Rattle.std.specs.Option.{ForSome};
-ghost use Rattle.lan_store.specs.declared.name.Name.{Name};
+ghost use Rattle.lan_store.specs.Budget.{ranges};
 ghost use Rattle.lan_store.specs.Causes.{HasCause};
+ghost use Rattle.lan_store.specs.Looked.{Looked};
 ghost use Rattle.lan_rows.specs.Line.{line_of};
 ghost use Rattle.lan_model.specs.Plain.{PlainValue, plain_field};
 ghost use Rattle.lan_model.specs.PlainTable.{column_of};
@@ -10,7 +11,7 @@ ghost use Rattle.lan_manifest.specs.Manifests.{plain_manifest};
 ghost use Rattle.lan_manifest.specs.Stage.{IsOneColumn, IsOneFile};
 ghost use Rattle.lan_read.specs.Newest.{IsOpened};
 ghost use Rattle.lan_scan.specs.Printing.{PrintsAll, PrintsFragment};
-ghost use Rattle.lan_scan.specs.Scans.{Scans};
+ghost use Rattle.lan_scan.specs.Scans.{Scans, scan_failure};
 
 use crate::sending::{SendFault, print_rows};
 use lan_file::FileReason;
@@ -18,6 +19,7 @@ use lan_manifest::{Fragment, Manifest};
 use lan_model::{Blob, FieldList};
 use lan_read::{FragmentFault, read_fragment};
 use lan_rows::RowPrinter;
+use lan_store::laws::looks_add_up;
 use lan_store::{Name, Sink, Store, write_all};
 use std::alloc::{AllocError, Global};
 
@@ -55,17 +57,15 @@ pub fn print_table<S: Store, O: Sink>(
     out: &mut O,
 ) -> Result<(), ScanFault>
     requires { IsOpened (plain_manifest manifest.now) }
-    ensures kept { S.objects store.new ≡ S.objects store.old }
+    ensures looked { Looked (scan_failure result) (ranges (4 * length manifest.now.fragments)) (S.tells store.old) (S.tells store.new) }
 
     // The sink got the lines of all rows, or the first of them: whole lines, unless a write failed. A
     // reason stands in a data file.
-    ensures scans { ForSome (S.objects store.old) (λ all. Scans all (plain_manifest manifest.now) (O.held out.old) (O.held out.new) result) }
+    ensures scans { ForSome (S.tells store.old).objects (λ all. Scans all (plain_manifest manifest.now) (O.held out.old) (O.held out.new) result) }
 
-    ensures store_cause { HasCause ((name : Name) × IsErrOf result (ScanFault.Store name)) (S.faults store.old) (S.faults store.new) }
-    ensures store_name { (name : Name) → IsErrOf result (ScanFault.Store name) → ForSome (S.objects store.old) (λ _. S.failed store.new ≡ Some name) }
-    ensures clashes { S.clashes store.old ≤ S.clashes store.new }
     ensures write_cause { HasCause (IsErrOf result ScanFault.Write) (O.faults out.old) (O.faults out.new) }
 {
+    looks_add_up();
     let mut printer = RowPrinter::new(alloc, &manifest.fields);
     let mut waiting = Blob::with_capacity(alloc, ROOM)?;
     print_fragments(alloc, store, manifest, &mut printer, &mut waiting, out)?;
@@ -87,14 +87,12 @@ fn print_fragments<S: Store, O: Sink>(
     requires column { IsOneColumn (plain_manifest manifest.now).fields }
     requires files { All IsOneFile manifest.now.fragments }
     requires none { waiting.old ≡ [] }
-    ensures kept { S.objects store.new ≡ S.objects store.old }
-    ensures prints { ForSome (S.objects store.old) (λ all. PrintsAll all (plain_manifest manifest.now) (line_of (map column_of printer.old)) waiting.new (O.held out.old) (O.held out.new) result) }
-    ensures store_cause { HasCause ((name : Name) × IsErrOf result (ScanFault.Store name)) (S.faults store.old) (S.faults store.new) }
-    ensures store_name { (name : Name) → IsErrOf result (ScanFault.Store name) → ForSome (S.objects store.old) (λ _. S.failed store.new ≡ Some name) }
-    ensures clashes { S.clashes store.old ≤ S.clashes store.new }
+    ensures looked { Looked (scan_failure result) (ranges (4 * length manifest.now.fragments)) (S.tells store.old) (S.tells store.new) }
+    ensures prints { ForSome (S.tells store.old).objects (λ all. PrintsAll all (plain_manifest manifest.now) (line_of (map column_of printer.old)) waiting.new (O.held out.old) (O.held out.new) result) }
     ensures same { printer.new ≡ printer.old }
     ensures write_cause { HasCause (IsErrOf result ScanFault.Write) (O.faults out.old) (O.faults out.new) }
 {
+    looks_add_up();
     for fragment in manifest.fragments.as_slice() {
         print_fragment(
             alloc,
@@ -121,11 +119,8 @@ fn print_fragment<S: Store, O: Sink>(
 ) -> Result<(), ScanFault>
     requires column { IsOneColumn (map plain_field fields.now) }
     requires file { IsOneFile fragment.now }
-    ensures kept { S.objects store.new ≡ S.objects store.old }
-    ensures prints { (pending : List (List PlainValue)) → waiting.old ≡ flat_map (line_of (map column_of printer.old)) pending → ForSome (S.objects store.old) (λ all. PrintsFragment all (map plain_field fields.now) fragment.now (line_of (map column_of printer.old)) pending waiting.new (O.held out.old) (O.held out.new) result) }
-    ensures store_cause { HasCause ((name : Name) × IsErrOf result (ScanFault.Store name)) (S.faults store.old) (S.faults store.new) }
-    ensures store_name { (name : Name) → IsErrOf result (ScanFault.Store name) → ForSome (S.objects store.old) (λ _. S.failed store.new ≡ Some name) }
-    ensures clashes { S.clashes store.old ≤ S.clashes store.new }
+    ensures looked { Looked (scan_failure result) (ranges 4) (S.tells store.old) (S.tells store.new) }
+    ensures prints { (pending : List (List PlainValue)) → waiting.old ≡ flat_map (line_of (map column_of printer.old)) pending → ForSome (S.tells store.old).objects (λ all. PrintsFragment all (map plain_field fields.now) fragment.now (line_of (map column_of printer.old)) pending waiting.new (O.held out.old) (O.held out.new) result) }
     ensures same { printer.new ≡ printer.old }
     ensures write_cause { HasCause (IsErrOf result ScanFault.Write) (O.faults out.old) (O.faults out.new) }
 {

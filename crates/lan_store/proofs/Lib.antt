@@ -1,4 +1,6 @@
 pub mod ByName
+pub mod Calling
 pub mod Distinct
 pub mod Held
+pub mod HeldMore
 pub mod Told

@@ -1,11 +1,16 @@
+pub mod Budget
+pub mod Calls
 pub mod Causes
 pub mod Gets
 pub mod InMemory
+pub mod Looked
 pub mod Names
 pub mod Objects
 pub mod Paths
+pub mod Planned
 pub mod Puts
 pub mod PutsAll
 pub mod Shelf
 pub mod Sizes
 pub mod Streams
+pub mod Telling

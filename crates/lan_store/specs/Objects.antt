@@ -31,11 +31,6 @@ pub record IsListing (dir : Dir) (objects : List Object) (names : List Name) : T
   pub all : IsPermutation (names_in dir objects) names
   pub sorted : IsSortedBy (λ a b. is_lt (slice_cmp nat_cmp a.rest b.rest)) names
 
--- where the store tells, the failed call's name is kept, and no other call changes it
-pub record TellsFailed (told : Option (List Object)) (Failed : Type 0) (name : Name) (before now : Option Name) : Type 0 where
-  pub set : ForSome told (λ _. Failed → now ≡ Some name)
-  pub kept : ForSome told (λ _. ¬ Failed → now ≡ before)
-
 -- a told list is one whose names are distinct
 pub told_distinct : (objects : List Object) → AreDistinct objects → ForSome (Some objects) AreDistinct
 told_distinct objects distinct all told = subst AreDistinct (same_Some objects all told) distinct

@@ -1,5 +1,5 @@
 -- What a source or a sink that tells says of its bytes.
-use Rattle.std.specs.Prelude.{◌≡◌, ℕ, ◌<◌, ◌≤◌, List, length, take, drop, ◌++◌, Option, Some, option_map, [], Result, Ok, Err, ⊤}
+use Rattle.std.specs.Prelude.{◌≡◌, ℕ, ◌<◌, ◌≤◌, List, length, take, drop, ◌++◌, Option, Some, option_map, [], Result, Ok, Err}
 use Rattle.std.specs.Option.{ForSome}
 use Rattle.std.specs.declared.alloc.Global.{Global}
 use Rattle.std.specs.Prelude.{Vec}
@@ -26,9 +26,13 @@ pub record TookOver (most : ℕ) (left : List ℕ) (now : Option (List ℕ)) : T
   pub long : most < length left
   pub taken : (k : ℕ) × (most < k) × (now ≡ Some (drop k left))
 
--- all that was left was read, where it was no more than this
+-- a front of what was left was taken
+abbrev pub TookFront : Option (List ℕ) → Option (List ℕ) → Type 0
+TookFront old new = (k : ℕ) × (new ≡ option_map (drop k) old)
+
+-- all that was left was read, where it was no more than this; and before the source failed, or memory ran short, a front of it
 abbrev pub ReadsAll : ℕ → Option (List ℕ) → Option (List ℕ) → Result (Vec ℕ Global) ReadAllFault → Type 0
 ReadsAll most old new (Ok bytes) = (length bytes.items ≤ most) × ForSome old (λ left. (bytes.items ≡ left) × (new ≡ Some []))
 ReadsAll most old new (Err TooLong) = ForSome old (λ left. TookOver most left new)
-ReadsAll most old new (Err Failed) = ⊤
-ReadsAll most old new (Err Memory) = ⊤
+ReadsAll most old new (Err Failed) = TookFront old new
+ReadsAll most old new (Err Memory) = TookFront old new

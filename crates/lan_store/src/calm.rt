@@ -14,10 +14,11 @@ pub struct CalmStore {
 }
 
 impl CalmStore {
-    ghost use Rattle.lan_store.specs.InMemory.{calm_objects};
+    ghost use Rattle.lan_store.specs.InMemory.{calm_objects, calm_tells};
+    ghost use Rattle.lan_store.specs.Telling.{at_first};
 
     pub fn new(alloc: Global) -> CalmStore
-        ensures { ⟦<CalmStore as Store>⟧.objects result ≡ Some [] }
+        ensures { calm_tells result ≡ at_first (Some []) }
     {
         CalmStore {
             shelf: Shelf::new(alloc),
@@ -48,19 +49,9 @@ impl CalmStore {
 }
 
 impl Store for CalmStore {
-    ghost use Rattle.lan_store.specs.InMemory.{calm_objects};
+    ghost use Rattle.lan_store.specs.InMemory.{calm_objects, calm_tells};
 
-    ghost objects = { λ s. Some (calm_objects s) };
-
-    ghost failed = { λ _. None };
-
-    ghost faults = { λ _. 0 };
-
-    ghost gets = { λ s. s.shelf.gets };
-
-    ghost got = { λ s. s.shelf.got };
-
-    ghost clashes = { λ s. s.shelf.clashes };
+    ghost tells = { calm_tells };
 
     ghost distinct = { λ s. told_distinct s.shelf.objects s.shelf.distinct };
 

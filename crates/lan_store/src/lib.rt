@@ -4,6 +4,7 @@
 mod blind;
 mod calm;
 mod copying;
+pub mod laws;
 mod memory;
 mod name;
 mod putting;

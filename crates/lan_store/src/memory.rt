@@ -1,12 +1,12 @@
 // Stores in memory.
-ghost use Rattle.std.specs.Prelude.{◌≡◌, ◌<◌, ◌≤◌, [], length, take, slice_get, Some, None, option_map};
+ghost use Rattle.std.specs.Prelude.{◌≡◌, ◌+◌, ◌^◌, ◌<◌, ◌≤◌, ◌⊎◌, ◌==◌, ◌∷◌, ◌++◌, [], length, take, find, slice_get, Some, None, option_map, OnOk, OnErr};
 ghost use Rattle.lan_store.specs.Causes.{Rose};
 ghost use Rattle.lan_store.specs.Objects.{told_distinct};
 
 use crate::shelf::Shelf;
 use crate::{Dir, GetFault, ListFault, Name, Names, Put, PutFault, SizeFault, Store};
 use lan_model::{Blob, List, Text};
-use std::alloc::Global;
+use std::alloc::{AllocError, Global};
 
 /// The call of this number, counted from 1 over all calls, fails: a put before its effect or after it.
 #[derive(Clone, Copy, Debug)]
@@ -16,6 +16,13 @@ pub struct Plan {
 }
 
 pub type Plans = List<Plan>;
+
+// The plan of a call.
+fn plan_of(plans: &[Plan], call: u64) -> Option<Plan>
+    ensures { result ≡ find (λ p. p.call == call) plans.now }
+{
+    plans.iter().copied().find(|p| p.call == call)
+}
 
 /// A store in memory that fails at planned calls.
 #[derive(Drop)]
@@ -28,11 +35,16 @@ pub struct MemStore {
 }
 
 impl MemStore {
-    ghost use Rattle.lan_store.specs.InMemory.{memory_objects};
+    ghost use Rattle.lan_store.specs.InMemory.{memory_objects, memory_tells};
+    ghost use Rattle.lan_store.specs.Calls.{next_call};
+    ghost use Rattle.lan_store.specs.Objects.{object};
+    ghost use Rattle.lan_store.specs.Planned.{next_plan, LeavesPut};
+    ghost use Rattle.lan_store.specs.Shelf.{SameCounts};
+    ghost use Rattle.lan_store.specs.Telling.{at_first};
 
     pub fn new(alloc: Global, plans: Plans) -> MemStore
-        ensures objects { ⟦<MemStore as Store>⟧.objects result ≡ Some [] }
-        ensures failed { ⟦<MemStore as Store>⟧.failed result ≡ None }
+        ensures tells { memory_tells result ≡ at_first (Some []) }
+        ensures plans { (result.plans ≡ plans) × (result.calls ≡ 0) }
     {
         MemStore {
             shelf: Shelf::new(alloc),
@@ -67,7 +79,8 @@ impl MemStore {
 
     /// A store of the first `len` objects, with no plan.
     pub fn cut(self, len: u64) -> MemStore
-        ensures { memory_objects result ≡ take len (memory_objects self) }
+        ensures tells { memory_tells result ≡ record (memory_tells self) { objects = Some (take len (memory_objects self)) } }
+        ensures plans { result.plans ≡ [] }
     {
         let MemStore {
             mut shelf,
@@ -89,19 +102,38 @@ impl MemStore {
 
     // Counts a call, and gives its plan.
     fn next_call(&mut self) -> Option<Plan>
-        ensures { (self.new.shelf ≡ self.old.shelf) × (self.new.faults ≡ self.old.faults) × (self.new.failed ≡ self.old.failed) }
+        ensures plan { result ≡ next_plan self.old }
+        ensures counted { self.new ≡ record self.old { calls = next_call self.old.calls } }
     {
         self.calls = self.calls.saturating_add(1);
-        let calls = self.calls;
-        self.plans
-            .as_slice()
-            .iter()
-            .find(|p| p.call == calls)
-            .copied()
+        plan_of(self.plans.as_slice(), self.calls)
+    }
+
+    // What a put that is to fail leaves.
+    fn leave(
+        &mut self,
+        alloc: Global,
+        after: bool,
+        name: &Name,
+        bytes: &[u8],
+    ) -> Result<(), AllocError>
+        ensures leaves { OnOk result (LeavesPut after name.now (memory_objects self.old) (memory_objects self.new)) }
+        ensures either { OnOk result ((memory_objects self.new ≡ memory_objects self.old) ⊎ ((object (memory_objects self.old) name.now ≡ None) × (memory_objects self.new ≡ memory_objects self.old ++ record { name = name.now; bytes = bytes.now } ∷ []))) }
+        ensures err { OnErr result (memory_objects self.new ≡ memory_objects self.old) }
+        ensures rest { self.new ≡ record self.old { shelf = self.new.shelf } }
+        ensures counts { SameCounts self.old.shelf self.new.shelf }
+    {
+        if !after {
+            return Ok(());
+        }
+        if self.shelf.holds(name) {
+            return Ok(());
+        }
+        self.shelf.add(alloc, name, bytes)
     }
 
     fn fail(&mut self, name: Name)
-        ensures shelf { self.new.shelf ≡ self.old.shelf }
+        ensures kept { (self.new.shelf ≡ self.old.shelf) × (self.new.plans ≡ self.old.plans) × (self.new.calls ≡ self.old.calls) }
         ensures failed { self.new.failed ≡ Some name }
         ensures faults { (self.old.faults ≤ self.new.faults) × Rose self.old.faults self.new.faults }
     {
@@ -111,23 +143,24 @@ impl MemStore {
 }
 
 impl Store for MemStore {
-    ghost use Rattle.lan_store.specs.InMemory.{memory_objects};
+    ghost use Rattle.lan_store.specs.InMemory.{memory_objects, memory_tells};
+    ghost use Rattle.lan_store.specs.Budget.{nothing, range, Counts};
+    ghost use Rattle.lan_store.specs.Gets.{IsRangeOf};
+    ghost use Rattle.lan_store.specs.Looked.{Looked, Stored, size_failure, get_failure, list_failure, put_failure, put_clashed};
+    ghost use Rattle.lan_store.specs.Objects.{object, IsListing};
+    ghost use Rattle.lan_store.specs.Planned.{next_plan, AsPlanned, LeavesPlanned};
+    ghost use Rattle.lan_store.specs.Puts.{Puts};
+    ghost use Rattle.lan_store.specs.Sizes.{IsSizeOf};
 
-    ghost objects = { λ s. Some (memory_objects s) };
-
-    ghost failed = { λ s. s.failed };
-
-    ghost faults = { λ s. s.faults };
-
-    ghost gets = { λ s. s.shelf.gets };
-
-    ghost got = { λ s. s.shelf.got };
-
-    ghost clashes = { λ s. s.shelf.clashes };
+    ghost tells = { memory_tells };
 
     ghost distinct = { λ s. told_distinct s.shelf.objects s.shelf.distinct };
 
-    fn size(&mut self, alloc: Global, name: &Name) -> Result<u64, SizeFault> {
+    fn size(&mut self, alloc: Global, name: &Name) -> Result<u64, SizeFault>
+        ensures answer { IsSizeOf (object (memory_objects self.old) name.now) result }
+        ensures looked { Looked (size_failure name.now result) nothing (memory_tells self.old) (memory_tells self.new) }
+        ensures planned { AsPlanned (result ≡ Err SizeFault.Failed) (result ≡ Err SizeFault.Memory) self.old self.new }
+    {
         if self.next_call().is_some() {
             let Ok(name) = name.copy(alloc) else {
                 return Err(SizeFault::Memory);
@@ -145,7 +178,14 @@ impl Store for MemStore {
         at: u64,
         len: u64,
         into: &mut Blob,
-    ) -> Result<(), GetFault> {
+    ) -> Result<(), GetFault>
+        requires { at + len ≤ 2 ^ 63 }
+        ensures answer { IsRangeOf (object (memory_objects self.old) name.now) at len into.old into.new result }
+        ensures as_before { OnErr result (into.new ≡ into.old) }
+        ensures looked { Looked (get_failure name.now result) (range len) (memory_tells self.old) (memory_tells self.new) }
+        ensures counted { OnOk result (Counts len (memory_tells self.old) (memory_tells self.new)) }
+        ensures planned { AsPlanned (result ≡ Err GetFault.Failed) (result ≡ Err GetFault.Memory) self.old self.new }
+    {
         if self.next_call().is_some() {
             let Ok(name) = name.copy(alloc) else {
                 return Err(GetFault::Memory);
@@ -156,7 +196,13 @@ impl Store for MemStore {
         self.shelf.get(name, at, len, into)
     }
 
-    fn list(&mut self, alloc: Global, dir: Dir, into: &mut Names) -> Result<(), ListFault> {
+    fn list(&mut self, alloc: Global, dir: Dir, into: &mut Names) -> Result<(), ListFault>
+        requires { into.old ≡ [] }
+        ensures answer { OnOk result (IsListing dir (memory_objects self.old) into.new) }
+        ensures as_before { OnErr result (into.new ≡ into.old) }
+        ensures looked { Looked (list_failure dir result) nothing (memory_tells self.old) (memory_tells self.new) }
+        ensures planned { AsPlanned (result ≡ Err ListFault.Failed) (result ≡ Err ListFault.Memory) self.old self.new }
+    {
         if self.next_call().is_some() {
             let rest = Text::new(alloc);
             self.fail(Name { dir, rest });
@@ -171,7 +217,12 @@ impl Store for MemStore {
         }
     }
 
-    fn put_if_absent(&mut self, alloc: Global, name: &Name, bytes: &[u8]) -> Result<Put, PutFault> {
+    fn put_if_absent(&mut self, alloc: Global, name: &Name, bytes: &[u8]) -> Result<Put, PutFault>
+        ensures answer { Puts (record { name = name.now; bytes = bytes.now }) (Some (memory_objects self.old)) (Some (memory_objects self.new)) result }
+        ensures stored { Stored (put_failure name.now result) nothing (put_clashed result) (memory_tells self.old) (memory_tells self.new) }
+        ensures planned { AsPlanned (result ≡ Err PutFault.Failed) (result ≡ Err PutFault.Memory) self.old self.new }
+        ensures leaves { result ≡ Err PutFault.Failed → LeavesPlanned (next_plan self.old) name.now (memory_objects self.old) (memory_objects self.new) }
+    {
         match self.next_call() {
             None => {
                 if self.shelf.holds(name) {
@@ -187,10 +238,7 @@ impl Store for MemStore {
                 let Ok(failed) = name.copy(alloc) else {
                     return Err(PutFault::Memory);
                 };
-                if plan.after
-                    && !self.shelf.holds(name)
-                    && self.shelf.add(alloc, name, bytes).is_err()
-                {
+                if self.leave(alloc, plan.after, name, bytes).is_err() {
                     return Err(PutFault::Memory);
                 }
                 self.fail(failed);

@@ -1,7 +1,6 @@
 // Objects that are put one after another.
-ghost use Rattle.std.specs.Prelude.{◌≡◌, ℕ, ◌≤◌, Some, slice_get, option_map, IsErrOf};
-ghost use Rattle.std.specs.Option.{ForSome};
-ghost use Rattle.lan_store.specs.Causes.{HasCause};
+ghost use Rattle.lan_store.specs.Budget.{nothing};
+ghost use Rattle.lan_store.specs.Looked.{Stored, put_all_failure, put_all_clashed};
 ghost use Rattle.lan_store.specs.PutsAll.{PutsAll};
 
 use crate::{Object, Put, PutFault, Store};
@@ -23,11 +22,8 @@ pub fn put_all<S: Store>(
     store: &mut S,
     objects: &[Object],
 ) -> Result<(), PutAllFault>
-    ensures puts { PutsAll objects.now (S.objects store.old) (S.objects store.new) result }
-    ensures cause { HasCause ((k : ℕ) × IsErrOf result (PutAllFault.Failed k)) (S.faults store.old) (S.faults store.new) }
-    ensures told { (k : ℕ) → IsErrOf result (PutAllFault.Failed k) → ForSome (S.objects store.old) (λ _. S.failed store.new ≡ option_map (λ o. o.name) (slice_get objects.now k)) }
-    ensures clash { HasCause ((k : ℕ) × IsErrOf result (PutAllFault.Exists k)) (S.clashes store.old) (S.clashes store.new) }
-    ensures ranges { (S.gets store.new ≡ S.gets store.old) × (S.got store.new ≡ S.got store.old) }
+    ensures puts { PutsAll objects.now (S.tells store.old).objects (S.tells store.new).objects result }
+    ensures stored { Stored (put_all_failure objects.now result) nothing (put_all_clashed result) (S.tells store.old) (S.tells store.new) }
 {
     for i in 0..objects.len() {
         let object = &objects[i];

@@ -30,7 +30,8 @@ impl Shelf {
     ghost use Rattle.lan_store.specs.Shelf.{SameCounts};
 
     pub fn new(alloc: Global) -> Shelf
-        ensures { result.objects ≡ [] }
+        ensures objects { result.objects ≡ [] }
+        ensures counts { (result.gets ≡ 0) × (result.got ≡ 0) × (result.clashes ≡ 0) }
     {
         Shelf {
             objects: List::new(alloc),

@@ -30,3 +30,13 @@ returns-clause-scans g c = λ all told.
     let is = line_is c.args.manifest.now.fields c.new-printer.result c.new-printer.ensures in
     scans_part all (plain_manifest c.args.manifest.now) (line_of (map column_of c.new-printer.result)) c.print_fragments.new.waiting c.as_slice.result.now _ (g.O.Sink.held c.print_fragments.new.out) _ is
     (c.in_ok-print_fragments.ensures.prints all told) c.as_slice.ensures c.write_all.ensures.part
+
+pub returns-in_err-waiting-clause-looked : goal.returns-in_err-waiting-clause-looked
+returns-in_err-waiting-clause-looked g c =
+    let p = err_from_is_err_and c.from_residual.result c.from_residual.ensures.1 in
+    rw (p.1, p.2) (c.looks_add_up.ensures.none _ (g.S.Store.tells c.args.store.now))
+
+pub returns-in_err-print_fragments-clause-looked : goal.returns-in_err-print_fragments-clause-looked
+returns-in_err-print_fragments-clause-looked g c =
+    let p = err_from_is_err_and c.from_residual-in_err-print_fragments.result c.from_residual-in_err-print_fragments.ensures.1 in
+    rw (p.1, p.2) c.in_err-print_fragments.ensures.looked

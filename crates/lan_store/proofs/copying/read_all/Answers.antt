@@ -1,9 +1,9 @@
-use Rattle.std.proofs.Common.{◌≡◌, ◌<◌, subst, sym, ◌∙◌, ap, ◌++◌, length, take, arith, rules, true}
-use Rattle.std.specs.Prelude.{Ok, is_ok}
+use Rattle.std.proofs.Common.{◌≡◌, ◌+◌, ◌<◌, drop, subst, sym, ◌∙◌, ap, ◌++◌, length, take, arith, rules, true}
+use Rattle.std.specs.Prelude.{Ok, is_ok, option_map}
 use Rattle.std.specs.Result.{is_err}
 use Rattle.lan_store.specs.Streams.{Takes}
 use Rattle.lan_store.specs.declared.source.Failed.{Failed}
-use Rattle.lan_store.proofs.Told.{read_more, read_end}
+use Rattle.lan_store.proofs.Told.{read_more, read_end, dropped_twice}
 use Rattle.lan_store.proofs.copying.read_all.Goals as goal
 
 pub returns-in-Ok-eq0-clause-read : goal.returns-in-Ok-eq0-clause-read
@@ -24,3 +24,9 @@ reading-preserved g c = record {
       c.reading.invariant.read c.in-Ok.ensures.within c.in-Ok.ensures.bytes got;
   later = search rules;
 }
+
+pub returns-then-is_err-clause-read : goal.returns-then-is_err-clause-read
+returns-then-is_err-clause-read g c = (
+  length c.reading.bytes.items + c.in-Ok.n,
+  c.in-Ok.ensures.bytes.0 ∙ ap (λ o. option_map (drop c.in-Ok.n) o) c.reading.invariant.read.left ∙ dropped_twice (g.I.Source.left c.args.input.now) (length c.reading.bytes.items) c.in-Ok.n,
+)

@@ -1,6 +1,5 @@
 pub mod FewPages
 pub mod LawTerms
-pub mod Lifting
 pub mod OneColumn
 pub mod PagesBack
 pub mod Ranges

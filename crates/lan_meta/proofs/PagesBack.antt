@@ -25,7 +25,8 @@ use Rattle.lan_meta.specs.declared.reading.TheConstants.{COLUMN_METADATA}
 use Rattle.lan_meta.specs.Columns.{StandsForPage, ColumnOf}
 use Rattle.lan_meta.specs.LayoutMessages.{plainly, SaysMini, SaysLayout}
 use Rattle.lan_meta.specs.PageMessages.{SaysEncoding, SaysPage}
-use Rattle.lan_meta.specs.PageRules.{FitLayers, digits, greatest_of, FitBits, ranges_of, Obeys, meta_of}
+use Rattle.lan_meta.specs.PageRules.{FitLayers, greatest_of, FitBits, ranges_of, Obeys, meta_of}
+use Rattle.lan_levels.specs.ZipForm.{digits}
 use Rattle.lan_meta.specs.Written.{is_list, encoding_text, page_written, page_texts, column_text}
 use Rattle.lan_meta.proofs.OneColumn.{no_mini}
 use Rattle.lan_meta.proofs.ReadBack.{Words, narrows_fit, said_layout, LayoutFits, values_told, encoding_back}

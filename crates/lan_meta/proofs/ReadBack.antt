@@ -18,7 +18,8 @@ use Rattle.lan_meta.specs.declared.page.Layout.TheVariants.{Constant, Mini, Zip}
 use Rattle.lan_meta.specs.declared.values.TheConstants.{VALUES, FLAT, CONSTANT_VALUE}
 use Rattle.lan_meta.specs.LayoutMessages.{narrow, plainly, SaysConstant, SaysZip, layouts, SaysLayout}
 use Rattle.lan_meta.specs.PageMessages.{SaysDirect, SaysEncoding}
-use Rattle.lan_meta.specs.PageRules.{digits, greatest_of}
+use Rattle.lan_meta.specs.PageRules.{greatest_of}
+use Rattle.lan_levels.specs.ZipForm.{digits}
 use Rattle.lan_meta.specs.ValueMessages.{SaysFlat, SaysVariable, SaysConstantValue, SaysValues}
 use Rattle.lan_meta.specs.Written.{values_text, is_list, constant_written, zip_written, layout_text, direct_text, encoding_text}
 

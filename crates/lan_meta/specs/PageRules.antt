@@ -8,6 +8,7 @@ use Rattle.lan_model.specs.Leaves.{PlainLeaf}
 use Rattle.lan_model.specs.Plain.{PlainType, primitive, vector}
 use Rattle.lan_levels.specs.Codes.{FitCodes, states_of}
 use Rattle.lan_levels.specs.SlotsOf.{lists_in}
+use Rattle.lan_levels.specs.ZipForm.{digits}
 use Rattle.lan_levels.specs.declared.shape.ValueKind.{ValueKind}
 use Rattle.lan_levels.specs.declared.shape.ValueKind.TheVariants as stored
 use Rattle.lan_meta.specs.declared.encoding.SaidPage.{SaidPage}
@@ -99,10 +100,6 @@ FitValues (Mini codes slots values) ty = FitsStored ty values
 FitValues (Zip codes slots values) ty = FitsZip ty values
 
 -- ---- control words
-
--- how many binary digits a number has, none for 0; below 64
-abbrev pub digits : ℕ → ℕ
-digits n = cond (nat_lt n 1) 0 (cond (nat_lt n 2) 1 (cond (nat_lt n 4) 2 (cond (nat_lt n 8) 3 (cond (nat_lt n 16) 4 (cond (nat_lt n 32) 5 6)))))
 
 -- the greatest number that the codes give a state
 abbrev pub greatest_of : List ℕ → ℕ

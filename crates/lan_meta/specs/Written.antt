@@ -7,7 +7,8 @@ use Rattle.lan_wire.specs.Written.{WrittenField, num, part, packed, parts, spell
 use Rattle.lan_meta.specs.declared.page.Layout.{Layout}
 use Rattle.lan_meta.specs.declared.page.Layout.TheVariants.{Constant, Mini, Zip}
 use Rattle.lan_meta.specs.declared.page.PageMeta.{PageMeta}
-use Rattle.lan_meta.specs.PageRules.{digits, greatest_of}
+use Rattle.lan_meta.specs.PageRules.{greatest_of}
+use Rattle.lan_levels.specs.ZipForm.{digits}
 
 -- how values are stored, as the one member of its message
 abbrev pub values_written : ValueKind → List WrittenField

@@ -3,7 +3,8 @@ ghost use Rattle.lan_model.specs.Leaves.{plain_leaf};
 ghost use Rattle.lan_model.specs.Plain.{plain_type};
 ghost use Rattle.lan_levels.specs.Codes.{IsCode};
 ghost use Rattle.lan_levels.specs.SlotsOf.{lists_in};
-ghost use Rattle.lan_meta.specs.PageRules.{codes_in, FitLayers, TakesNull, slots_of, buffers_of, FitCounts, bits_of, IsValue, FitsStored, FitsZip, FitsOne, FitValues, digits, greatest_of, FitBits, ranges_of, EndBefore, Obeys, BreaksRule};
+ghost use Rattle.lan_levels.specs.ZipForm.{digits};
+ghost use Rattle.lan_meta.specs.PageRules.{codes_in, FitLayers, TakesNull, slots_of, buffers_of, FitCounts, bits_of, IsValue, FitsStored, FitsZip, FitsOne, FitValues, greatest_of, FitBits, ranges_of, EndBefore, Obeys, BreaksRule};
 
 use crate::encoding::SaidPage;
 use crate::layout::SaidLayout;

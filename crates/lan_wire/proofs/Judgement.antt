@@ -1,6 +1,6 @@
 -- A part of numbers, one number further.
 use Rattle.std.proofs.Common.{◌≡◌, ℕ, Result, Bool, true, false, List, [], ◌∷◌, ◌++◌, Ok, Err, refl, sym, ap, subst, ◌∙◌, append_assoc}
-use Rattle.std.specs.Prelude.{◌&&◌, IsTrue, OnOk, IfErr}
+use Rattle.std.specs.Prelude.{◌&&◌, IsTrue, IfErr}
 use Rattle.std.specs.List.{list_all}
 use Rattle.lan_wire.specs.Reading.{varint_at}
 use Rattle.lan_wire.specs.Readers.{AreNumbers}
@@ -45,10 +45,6 @@ judged_then false b new e is = absurd cc
 pub judged_else : (fit b : Bool) → fit ≡ false → fit ≡ (fit && b)
 judged_else true b e = absurd cc
 judged_else false b e = refl
-
-pub on_ok : {A E P Q : Type 0} (r : Result A E) → (P → Q) → OnOk r P → OnOk r Q
-on_ok (Ok x) f h = f h
-on_ok (Err e) f h = h
 
 pub if_err : {A E : Type 0} {P Q : E → Type 0} (r : Result A E) → ((e : E) → P e → Q e) → IfErr r P → IfErr r Q
 if_err (Ok x) f h = h

@@ -1,13 +1,13 @@
 -- What the message of the one column says.
-use Rattle.std.proofs.Common.{◌≡◌, ℕ, ◌+◌, ◌^◌, ◌<◌, true, false, List, [], ◌∷◌, ◌++◌, length, get_or, refl, sym, subst, ap, arith}
+use Rattle.std.proofs.Common.{◌≡◌, ℕ, ◌+◌, ◌^◌, ◌<◌, true, false, List, length, sym, subst, ap, arith}
 use Rattle.std.specs.Prelude.{negsuc}
 use Rattle.std.proofs.lemmas.Str.{IsUtf8-from_is_utf8}
 use Rattle.lan_bytes.specs.Placed.{Placed}
-use Rattle.lan_model.specs.Plain.{PlainType, PlainField, field, primitive, vector, no_fields, one_field}
+use Rattle.lan_model.specs.Plain.{PlainType, PlainField, field, primitive, vector}
 use Rattle.lan_model.specs.Table.{IsField}
 use Rattle.lan_wire.specs.Spelling.{key, part_item, varint}
 use Rattle.lan_schema.specs.FieldMessage.{Flat, SaysField}
-use Rattle.lan_schema.specs.FieldTree.{logical_of, signed}
+use Rattle.lan_schema.specs.FieldTree.{logical_of}
 use Rattle.lan_schema.specs.Logical.{IsFixedType}
 use Rattle.lan_schema.specs.Written.{CanTell, CanTellType}
 use Rattle.lan_schema.proofs.LawTerms.{one_field as one_said, field_says}

@@ -10,7 +10,7 @@ use Rattle.lan_model.specs.Plain.{PlainType, primitive, vector, text, bytes, lis
 use Rattle.lan_model.specs.PlainTable.{column_of}
 use Rattle.lan_model.specs.Table.{Column, AreColumns, name_of}
 use Rattle.lan_model.specs.declared.tree.Field.{Field, the_lemmas}
-use Rattle.lance_cli.specs.Creates.{TakesFields}
+use Rattle.lance_cli.specs.Creates.{Takes}
 use Rattle.lance_cli.specs.Stage.{is_fixed, is_built}
 use Rattle.lance_cli.proofs.Serving.{columns_are}
 
@@ -49,11 +49,7 @@ built_read f is counts columns utf8 = column_read (plain_field f) is counts colu
 
 -- the fields of a text of which tables are made
 pub takes_fields : (json : List ℕ) (fields : List Field) → form json ≡ Ok (map column_of fields) → CountFrom 0 (plain_fields fields) → AreColumns (map column_of fields) → is_built (map column_of fields) ≡ true → IsOneColumn (map plain_field fields)
-    → TakesFields json (map plain_field fields)
+    → Takes json (map plain_field fields)
 takes_fields json fields reads counts columns built column =
     let same = columns_are fields in
-    record {
-      takes = record { form = reads ∙ ap (λ c. Ok c) same; numbered = counts; built = ap is_built (sym same) ∙ built };
-      columns = subst AreColumns same columns;
-      column = column;
-    }
+    record { form = reads ∙ ap (λ c. Ok c) same; numbered = counts; columns = subst AreColumns same columns; built = ap is_built (sym same) ∙ built; column = column }

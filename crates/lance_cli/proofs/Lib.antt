@@ -1,13 +1,14 @@
-pub mod AppendClauses
-pub mod AppendMoments
-pub mod Asking
-pub mod Built
-pub mod CreateClauses
-pub mod NewestReply
-pub mod Refusing
-pub mod Replying
-pub mod RunClauses
-pub mod ScanClauses
-pub mod SchemaClauses
-pub mod Serving
-pub mod Unchanged
+mod Asking
+mod Built
+mod ByWords
+mod Ends
+mod Failing
+mod Fronts
+mod L7
+mod Linked
+mod NewestReply
+mod OneCount
+mod OneLink
+mod RunClauses
+mod Serving
+mod StepStands

@@ -1,102 +1,321 @@
 -- What a run does to the tables, from what its command read, put and answered.
-use Rattle.std.proofs.Common.{◌≡◌, sym, ◌∙◌, ap, ℕ, List}
-use Rattle.std.specs.Prelude.{Option, Some, None, Result, Err, IsErrOf}
+use Rattle.std.proofs.Common.{◌≡◌, inl, inr, refl, sym, ◌∙◌, ap, subst, ℕ, ◌^◌, ◌<◌, ◌≤◌, List, [], ◌∷◌, ◌++◌, length, take, arith, append-nil, true, false, drop}
+use Rattle.std.specs.Prelude.{Bool, ◌&&◌, nat_lt, cond, IsTrue, ◌⊎◌, IsSomeAnd, Option, Some, None, Vec, Result, Ok, Err, option_map}
+use Rattle.std.specs.Option.{ForSome}
+use Rattle.std.specs.declared.alloc.Global.{Global}
+use Rattle.std.proofs.lemmas.Bool.Decides.{nat_tests}
+use Rattle.std.proofs.lemmas.List.{take_all, drop_all}
+use Rattle.std.proofs.lemmas.Option.{same_Some}
 use Rattle.lan_model.specs.Dataset.{Dataset}
-use Rattle.lan_store.specs.Causes.{HasCause}
-use Rattle.lan_store.specs.declared.name.Name.{Name}
+use Rattle.lan_model.specs.Table.{Table}
+use Rattle.lan_rows.specs.Lines.{cut}
+use Rattle.lan_store.specs.Objects.{and_then}
+use Rattle.lan_store.specs.Streams.{and_then_bytes, TookOver}
 use Rattle.lan_store.specs.declared.name.Object.{Object}
-use Rattle.lance_cli.specs.Causes.{Cause}
+use Rattle.lan_read.proofs.Monotone.{stands_more}
+use Rattle.lance_cli.specs.Chain.{Link, outcomes_of}
 use Rattle.lance_cli.specs.Changes.{Change}
-use Rattle.lance_cli.specs.Clauses.{Kept, IsReply, Done, Fails, Decided, Refused, Moments, Leaves, Prints, TakenBy}
-use Rattle.lance_cli.specs.Commands.{Asked, create, append, scan, schema}
-use Rattle.lance_cli.specs.Replies.{Told, Outcome, asked_of}
-use Rattle.lance_cli.specs.Served.{Served}
+use Rattle.lance_cli.specs.Commands.{Asked, create, append, scan, schema, reads_input, Request}
+use Rattle.lance_cli.specs.Inputs.{IsInput, ReadsInput, TakesText}
+use Rattle.lance_cli.specs.Replies.{Mode, single, batch, generate, answer_to, Tells, alone, asked_of}
+use Rattle.lance_cli.specs.Runs.{Entry, wants_input, heard, IsLong, IsTooLong, Keeps, Kept, IsRun, Done, IsDone, IsUntouched, StoppedIn, Stops, Moments, expected, Decided, IsFailure, OnTrail, NoneLeft, NextRefused, Ran, IsEarly, Ordered, TakenToEnd, TakenBy}
+use Rattle.lance_cli.specs.Puts.{Accepts}
+use Rattle.lance_cli.specs.Served.{Applied, WithText, Stopped, WriteFails, Served}
+use Rattle.lance_cli.specs.Steps.{Step, Trail}
+use Rattle.lan_store.specs.Telling.{Telling}
+use Rattle.lance_cli.specs.Words.{ByWords, WordsFirst}
 use Rattle.lance_cli.specs.declared.fault.Fault.{Fault}
-use Rattle.lance_cli.specs.declared.fault.Fault.TheVariants.{Usage, ReadFault, StoreFault, WriteFault}
-use Rattle.lance_cli.proofs.AppendClauses.{append_kept, append_cause, append_done, append_decided}
-use Rattle.lance_cli.proofs.AppendMoments.{append_moments, append_leaves, append_prints, append_takes}
-use Rattle.lance_cli.proofs.CreateClauses.{created_or_not, created_kept, create_cause, create_done, create_decided, create_moments, create_leaves, create_prints}
-use Rattle.lance_cli.proofs.Refusing.{append_refused, none_refused}
-use Rattle.lance_cli.proofs.ScanClauses.{scan_cause, scan_done, scan_decided, scan_leaves, scan_prints}
-use Rattle.lance_cli.proofs.SchemaClauses.{schema_cause, schema_done, schema_decided, schema_leaves, schema_prints}
-use Rattle.lance_cli.proofs.Unchanged.{entry, unchanged_kept, refused_done, unchanged_moments}
+use Rattle.lance_cli.specs.declared.fault.Fault.TheVariants as fault
+use Rattle.lance_cli.proofs.Ends.{moments_hold}
+use Rattle.lance_cli.proofs.OneLink.{One, one_of, link_done, link_stopped, link_decided}
 
-pub kept_of : (asked : Option Asked) (c : Change) (result : Result Unit Fault) → Served asked c result → Kept c.before c.now
-kept_of None c result served = unchanged_kept c.before c.now served.objects
-kept_of (Some (create json)) c result served = created_kept json c.before c.now (created_or_not json c result served.answered.leaves)
-kept_of (Some append) c result served = append_kept c result served
-kept_of (Some scan) c result served = unchanged_kept c.before c.now served.answered.objects
-kept_of (Some schema) c result served = unchanged_kept c.before c.now served.answered.objects
+-- ---- what stood
 
-usage_cause : (words : List (List ℕ)) (c : Change) (result : Result Unit Fault) → asked_of words ≡ None → result ≡ Err Usage → Cause (entry words c) result
-usage_cause words c result none is = rw is none
+keeps : (old new more : List Object) → new ≡ old ++ more → Keeps old new
+keeps old new more is = record { grew = (more, is); stands = λ version t stands. rw is (stands_more old more version t stands) }
 
-pub cause_of : (asked : Option Asked) (words : List (List ℕ)) (c : Change) (result : Result Unit Fault) → asked_of words ≡ asked → Served asked c result → Cause (entry words c) result
-cause_of None words c result is served = usage_cause words c result is served.answer
-cause_of (Some (create json)) words c result is served = create_cause (entry words c) json result is served.answered.due
-cause_of (Some append) words c result is served = append_cause words c result is served
-cause_of (Some scan) words c result is served = scan_cause words c result is served.answered
-cause_of (Some schema) words c result is served = schema_cause words c result is served.answered
+told_keeps : (old more : List Object) (now : Option (List Object)) → now ≡ Some (old ++ more) → IsSomeAnd now (Keeps old)
+told_keeps old more now is = rw is (keeps old (old ++ more) more refl)
 
-pub done_of : (asked : Option Asked) (words : List (List ℕ)) (c : Change) (result : Result Unit Fault) → asked_of words ≡ asked → Served asked c result → Done (entry words c) c.now c.held c.holds result
-done_of None words c result is served = refused_done (entry words c) c.now c.held c.holds result Usage served.answer
-done_of (Some (create json)) words c result is served = create_done (entry words c) json c.now c.held c.holds result is served.answered.leaves
-done_of (Some append) words c result is served = append_done words c result is served
-done_of (Some scan) words c result is served = scan_done words c result is served.answered
-done_of (Some schema) words c result is served = schema_done words c result is served.answered
+pub unchanged_kept : (before now : Option (List Object)) → now ≡ before → Kept before now
+unchanged_kept before now same = λ old was. told_keeps old [] now (same ∙ was ∙ ap (λ l. Some l) (sym (append-nil old)))
 
-none_told : (words : List (List ℕ)) (old : List Object) (input : List ℕ) (d : Dataset) (told : Told) (outcome : Outcome) → asked_of words ≡ None → IsReply words old input d told outcome → ⊥
-none_told words old input d told outcome none r = let some = r.tells.asked in cc (sym none ∙ some)
+applied_keeps : (c : Change) (r : Request) (cut : ℕ → ℕ → Type 0) (old : List Object) → Applied old c r cut → IsSomeAnd c.now (Keeps old)
+applied_keeps c r cut old a = told_keeps old (take a.k a.puts) c.now a.grew
 
-pub decided_of : (asked : Option Asked) (words : List (List ℕ)) (c : Change) (result : Result Unit Fault) (store_old store_new source_old source_new sink_old sink_new : ℕ) → asked_of words ≡ asked → Served asked c result
-    → HasCause ((name : Name) × IsErrOf result (StoreFault name)) store_old store_new → HasCause (IsErrOf result ReadFault) source_old source_new → HasCause (IsErrOf result WriteFault) sink_old sink_new
-    → Decided (entry words c) (Fails store_old store_new source_old source_new sink_old sink_new) result
-decided_of None words c result a b i j s t is served store source sink = λ calm old was text was_input d told outcome r. absurd (none_told words old text d told outcome is r)
-decided_of (Some (create json)) words c result a b i j s t is served store source sink = create_decided (entry words c) json result a b i j s t is served.answered.due store sink
-decided_of (Some append) words c result a b i j s t is served store source sink = append_decided words c result a b i j s t is served store source sink
-decided_of (Some scan) words c result a b i j s t is served store source sink = scan_decided words c result a b i j s t is served.answered store sink
-decided_of (Some schema) words c result a b i j s t is served store source sink = schema_decided words c result a b i j s t is served.answered store sink
+stopped_kept : (c : Change) (r : Request) (cut : ℕ → ℕ → Type 0) → Stopped c r cut → Kept c.before c.now
+stopped_kept c r cut (inl same) = unchanged_kept c.before c.now same
+stopped_kept c r cut (inr applied) = λ old was. applied_keeps c r cut old (applied old was)
 
-pub refused_of : (asked : Option Asked) (words : List (List ℕ)) (c : Change) (result : Result Unit Fault) (store_old store_new source_old source_new sink_old sink_new : ℕ) → asked_of words ≡ asked → Served asked c result
-    → HasCause ((name : Name) × IsErrOf result (StoreFault name)) store_old store_new → HasCause (IsErrOf result ReadFault) source_old source_new → HasCause (IsErrOf result WriteFault) sink_old sink_new
-    → Refused (entry words c) (Fails store_old store_new source_old source_new sink_old sink_new) result
-refused_of None words c result a b i j s t is served store source sink = none_refused words c result (Fails a b i j s t) (λ asked asked_is same. cc (sym is ∙ asked_is))
-refused_of (Some (create json)) words c result a b i j s t is served store source sink = none_refused words c result (Fails a b i j s t) (λ asked asked_is same. cc (sym is ∙ asked_is ∙ ap (λ x. Some x) same))
-refused_of (Some append) words c result a b i j s t is served store source sink = append_refused words c result a b i j s t is served store source sink
-refused_of (Some scan) words c result a b i j s t is served store source sink = none_refused words c result (Fails a b i j s t) (λ asked asked_is same. cc (sym is ∙ asked_is ∙ ap (λ x. Some x) same))
-refused_of (Some schema) words c result a b i j s t is served store source sink = none_refused words c result (Fails a b i j s t) (λ asked asked_is same. cc (sym is ∙ asked_is ∙ ap (λ x. Some x) same))
+write_kept : (b : Bool) (c : Change) (r : Request) → WriteFails b c r → Kept c.before c.now
+write_kept false c r fails = λ old was. applied_keeps c r (λ k n. k ≡ n) old (fails old was).0
+write_kept true c r fails = unchanged_kept c.before c.now fails.0
 
-pub moments_of : (asked : Option Asked) (words : List (List ℕ)) (c : Change) (result : Result Unit Fault) → asked_of words ≡ asked → Served asked c result → Moments (entry words c) c.now
-moments_of None words c result is served = unchanged_moments (entry words c) c.now served.objects
-moments_of (Some (create json)) words c result is served = create_moments (entry words c) json c.now is (created_or_not json c result served.answered.leaves)
-moments_of (Some append) words c result is served = append_moments words c result is served
-moments_of (Some scan) words c result is served = unchanged_moments (entry words c) c.now served.answered.objects
-moments_of (Some schema) words c result is served = unchanged_moments (entry words c) c.now served.answered.objects
+pub served_kept : (c : Change) (r : Request) (result : Result Unit Fault) → Served c r result → Kept c.before c.now
+served_kept c r (Ok t) served = λ old was. applied_keeps c r (λ k n. k ≡ n) old (served old was).0
+served_kept c r (Err fault.WriteFault) served = write_kept _ c r served
+served_kept c r (Err (fault.StoreFault name)) served = stopped_kept c r (λ k n. k ≤ n) served.0
+served_kept c r (Err fault.Memory) served = stopped_kept c r (λ k n. k < n) served.0
+served_kept c r (Err (fault.Raced name)) served = stopped_kept c r (λ k n. k < n) served.1
+served_kept c r (Err (fault.Outside name why place)) served = unchanged_kept c.before c.now served.1
+served_kept c r (Err fault.Usage) served = absurd served.0
+served_kept c r (Err (fault.BadInput line why)) served = unchanged_kept c.before c.now served.1
+served_kept c r (Err fault.InputTooLong) served = absurd served.0
+served_kept c r (Err fault.NoDataset) served = unchanged_kept c.before c.now served.1
+served_kept c r (Err (fault.AlreadyThere version)) served = unchanged_kept c.before c.now served.1
+served_kept c r (Err (fault.NoVersion asked newest)) served = absurd served.0
+served_kept c r (Err (fault.RowOutOfRange row rows)) served = absurd served.0
+served_kept c r (Err (fault.NoColumn name)) served = absurd served.0
+served_kept c r (Err (fault.ColumnThere name)) served = absurd served.0
+served_kept c r (Err (fault.LastColumn name)) served = absurd served.0
+served_kept c r (Err (fault.NoNullable name)) served = absurd served.0
+served_kept c r (Err (fault.CountDiffers rows lines)) served = absurd served.0
+served_kept c r (Err (fault.Limit which number)) served = unchanged_kept c.before c.now served.1
+served_kept c r (Err fault.ReadFault) served = absurd served.0
+served_kept c r (Err fault.NotBuilt) served = unchanged_kept c.before c.now served.1
 
-usage_leaves : (words : List (List ℕ)) (c : Change) (result : Result Unit Fault) → result ≡ Err Usage → c.now ≡ c.before → Leaves (entry words c) c.now result
-usage_leaves words c result is same = rw is same
+-- ---- the words and the input
 
-pub leaves_of : (asked : Option Asked) (words : List (List ℕ)) (c : Change) (result : Result Unit Fault) → asked_of words ≡ asked → Served asked c result → Leaves (entry words c) c.now result
-leaves_of None words c result is served = usage_leaves words c result served.answer served.objects
-leaves_of (Some (create json)) words c result is served = create_leaves (entry words c) json c.now c.held c.holds result is served.answered.due served.answered.leaves
-leaves_of (Some append) words c result is served = append_leaves words c result is served
-leaves_of (Some scan) words c result is served = scan_leaves words c result is served.answered
-leaves_of (Some schema) words c result is served = schema_leaves words c result is served.answered
+-- where the words ask for nothing, there is no run of them
+pub no_run : (words : List (List ℕ)) (input : List ℕ) (old : List Object) (mode : Mode) (d : Dataset) (links : List Link) → asked_of words ≡ None → IsRun words input old mode d links → ⊥
+no_run words input old mode d links none r = let one = one_of words input old mode d links r in cc (sym none ∙ one.asked)
 
-usage_prints : (words : List (List ℕ)) (c : Change) (result : Result Unit Fault) → result ≡ Err Usage → c.holds ≡ c.held → Prints (entry words c) c.held c.holds result
-usage_prints words c result is same = rw is same
+heard_as : (b : Bool) (given left : Option (List ℕ)) (text : Vec ℕ Global) (all : List ℕ) → TakesText b given left (Ok text) → cond b given (Some []) ≡ Some all → text.items ≡ all
+heard_as true given left text all took told = (took.all all told).0
+heard_as false given left text all took told = took.0 ∙ same_Some [] all told
 
-pub prints_of : (asked : Option Asked) (words : List (List ℕ)) (c : Change) (result : Result Unit Fault) → asked_of words ≡ asked → Served asked c result → Prints (entry words c) c.held c.holds result
-prints_of None words c result is served = usage_prints words c result served.answer served.bytes
-prints_of (Some (create json)) words c result is served = create_prints (entry words c) json c.now c.held c.holds result is served.answered.due served.answered.leaves
-prints_of (Some append) words c result is served = append_prints words c result is served
-prints_of (Some scan) words c result is served = scan_prints words c result is served.answered
-prints_of (Some schema) words c result is served = schema_prints words c result is served.answered
+-- what was read is what is heard
+pub heard_is : (e : Entry) (asked : Asked) (left : Option (List ℕ)) (text : Vec ℕ Global) → asked_of e.words ≡ Some asked → TakesText (reads_input asked) e.input left (Ok text) → ForSome (heard e) (λ all. text.items ≡ all)
+heard_is e asked left text is takes = λ all told. heard_as (reads_input asked) e.input left text all takes (ap (λ a. cond (wants_input a) e.input (Some [])) (sym is) ∙ told)
 
--- what the command took of its input
-pub taken_of : (asked : Option Asked) (c : Change) (result : Result Unit Fault) → Served asked c result → TakenBy asked c.given c.left result
-taken_of None c result served = served.input
-taken_of (Some (create json)) c result served = served.input
-taken_of (Some append) c result served = append_takes c result served
-taken_of (Some scan) c result served = served.input
-taken_of (Some schema) c result served = served.input
+pub is_short : (b : Bool) (given left : Option (List ℕ)) (text : Vec ℕ Global) → TakesText b given left (Ok text) → length text.items ≤ 2 ^ 28
+is_short true given left text takes = takes.short
+is_short false given left text takes = omega (arith, ap length takes.0)
+
+never_long : (e : Entry) (asked : Asked) (left : Option (List ℕ)) (text : Vec ℕ Global) → asked_of e.words ≡ Some asked → TakesText (reads_input asked) e.input left (Ok text) → IsLong e → ⊥
+never_long e asked left text is takes (wants, long) = go (reads_input asked) takes (sym (ap wants_input is) ∙ wants) where
+  none : (given : Option (List ℕ)) → IsInput given left text.items → IsSomeAnd given (λ input. 2 ^ 28 < length input) → ⊥
+  none None took over = over
+  none (Some input) took over = omega (arith, over, took.short, ap length (took.all input refl).0)
+
+  go : (b : Bool) → TakesText b e.input left (Ok text) → b ≡ true → ⊥
+  go true took wanted = none e.input took long
+  go false took wanted = cc wanted
+
+-- ---- on any folder
+
+none_more : (o : Option (List Object)) → o ≡ and_then o []
+none_more None = refl
+none_more (Some objects) = ap (λ l. Some l) (sym (append-nil objects))
+
+no_bytes : (o : Option (List ℕ)) → o ≡ and_then_bytes o []
+no_bytes None = refl
+no_bytes (Some bytes) = ap (λ l. Some l) (sym (append-nil bytes))
+
+-- the one command is next
+next_one : (e : Entry) (now : Option (List Object)) (held holds : Option (List ℕ)) (asked : Asked) (left : Option (List ℕ)) (text : Vec ℕ Global) (f : Fault) → asked_of e.words ≡ Some asked → TakesText (reads_input asked) e.input left (Ok text)
+    → Served (record { before = e.objects; now = now; held = held; holds = holds }) (alone asked text.items) (Err f) → OnTrail e held (NextRefused now holds f)
+next_one e now held holds asked left text f is takes served = record {
+  input = text.items;
+  is_heard = heard_is e asked left text is takes;
+  short = is_short (reads_input asked) e.input left text takes;
+  mode = single;
+  steps = [];
+  left = alone asked text.items ∷ [];
+  went = record { tells = (is, refl); trail = tt };
+  holds = subst (λ o. Served (record { before = o; now = now; held = and_then_bytes held []; holds = holds }) (alone asked text.items) (Err f)) (none_more e.objects)
+      (subst (λ h. Served (record { before = e.objects; now = now; held = h; holds = holds }) (alone asked text.items) (Err f)) (no_bytes held) served);
+}
+
+-- the one command had its turn
+over_one : (e : Entry) (now : Option (List Object)) (held holds : Option (List ℕ)) (asked : Asked) (left : Option (List ℕ)) (text : Vec ℕ Global) → asked_of e.words ≡ Some asked → TakesText (reads_input asked) e.input left (Ok text)
+    → Served (record { before = e.objects; now = now; held = held; holds = holds }) (alone asked text.items) (Ok tt) → ForSome e.objects (λ old. OnTrail e held (NoneLeft now holds))
+over_one e now held holds asked left text is takes served = λ old was.
+    let (a, prints) = served old was in
+    let step : Step = record { request = alone asked text.items; answer = Ok a.text; puts = a.puts } in
+    record {
+      input = text.items;
+      is_heard = heard_is e asked left text is takes;
+      short = is_short (reads_input asked) e.input left text takes;
+      mode = single;
+      steps = step ∷ [];
+      left = [];
+      went = record { tells = (is, refl); trail = ((λ all told. subst (λ l. Accepts l (alone asked text.items) asked a.puts a.text) (same_Some old all (sym was ∙ told)) a.accepted), refl, tt) };
+      holds = (
+        refl,
+        a.grew ∙ ap (λ l. Some (old ++ l)) (take_all a.k a.puts (omega (arith, a.stopped))) ∙ sym (ap (λ o. and_then o a.puts) was) ∙ ap (λ l. and_then e.objects l) (sym (append-nil a.puts)),
+        prints ∙ ap (λ l. and_then_bytes held l) (sym (append-nil a.text)),
+      );
+    }
+
+pub served_ran : (e : Entry) (now : Option (List Object)) (held holds : Option (List ℕ)) (asked : Asked) (left : Option (List ℕ)) (text : Vec ℕ Global) (result : Result Unit Fault) → asked_of e.words ≡ Some asked → TakesText (reads_input asked) e.input left (Ok text)
+    → Served (record { before = e.objects; now = now; held = held; holds = holds }) (alone asked text.items) result → Ran e now held holds result
+served_ran e now held holds asked left text (Ok t) is takes served = (over_one e now held holds asked left text is takes served, (asked, is), never_long e asked left text is takes)
+served_ran e now held holds asked left text (Err fault.Usage) is takes served = absurd served.0
+served_ran e now held holds asked left text (Err fault.InputTooLong) is takes served = absurd served.0
+served_ran e now held holds asked left text (Err fault.ReadFault) is takes served = absurd served.0
+served_ran e now held holds asked left text (Err fault.Memory) is takes served = inr (next_one e now held holds asked left text fault.Memory is takes served)
+served_ran e now held holds asked left text (Err f) is takes served = next_one e now held holds asked left text f is takes served
+
+-- ---- where the versions that are read stand
+
+-- a run's one link is of what was served
+linked : (e : Entry) (asked : Asked) (left : Option (List ℕ)) (text : Vec ℕ Global) (old : List Object) (input : List ℕ) (mode : Mode) (d : Dataset) (links : List Link) → asked_of e.words ≡ Some asked → TakesText (reads_input asked) e.input left (Ok text) → heard e ≡ Some input
+    → (one : One e.words input old mode d links) → alone asked text.items ≡ one.link.told.request
+linked e asked left text old input mode d links is takes told one =
+    let same : asked ≡ one.link.told.request.asked = same_Some asked one.link.told.request.asked (sym is ∙ one.asked) in
+    ap (λ t. alone asked t) (heard_is e asked left text is takes input told) ∙ ap (λ a. alone a input) same ∙ sym one.request
+
+served_link : (e : Entry) (now : Option (List Object)) (held holds : Option (List ℕ)) (asked : Asked) (left : Option (List ℕ)) (text : Vec ℕ Global) (result : Result Unit Fault) (old : List Object) (input : List ℕ) (mode : Mode) (d : Dataset) (links : List Link) → asked_of e.words ≡ Some asked
+    → TakesText (reads_input asked) e.input left (Ok text) → Served (record { before = e.objects; now = now; held = held; holds = holds }) (alone asked text.items) result → heard e ≡ Some input → (one : One e.words input old mode d links)
+    → Served (record { before = e.objects; now = now; held = held; holds = holds }) one.link.told.request result
+served_link e now held holds asked left text result old input mode d links is takes served told one =
+    subst (λ r. Served (record { before = e.objects; now = now; held = held; holds = holds }) r result) (linked e asked left text old input mode d links is takes told one) served
+
+pub served_done : (e : Entry) (now : Option (List Object)) (held holds : Option (List ℕ)) (asked : Asked) (left : Option (List ℕ)) (text : Vec ℕ Global) (result : Result Unit Fault) → asked_of e.words ≡ Some asked → TakesText (reads_input asked) e.input left (Ok text)
+    → Served (record { before = e.objects; now = now; held = held; holds = holds }) (alone asked text.items) result → Done e now held holds result
+served_done e now held holds asked left text (Err f) is takes served = λ old was input told mode d links r. tt
+served_done e now held holds asked left text (Ok t) is takes served = λ old was input told mode d links r.
+    let one = one_of e.words input old mode d links r in
+    let whole = link_done (record { before = e.objects; now = now; held = held; holds = holds }) old d one.link was one.agrees one.is (served_link e now held holds asked left text (Ok t) old input mode d links is takes served told one) in
+    subst (λ m. IsDone m old d links now held holds) (sym one.mode_is) (subst (λ l. IsDone single old d l now held holds) (sym one.links_are) whole)
+
+pub served_stops : (e : Entry) (now : Option (List Object)) (held holds : Option (List ℕ)) (asked : Asked) (left : Option (List ℕ)) (text : Vec ℕ Global) (result : Result Unit Fault) → asked_of e.words ≡ Some asked → TakesText (reads_input asked) e.input left (Ok text)
+    → Served (record { before = e.objects; now = now; held = held; holds = holds }) (alone asked text.items) result → Stops e now held holds result
+served_stops e now held holds asked left text (Ok t) is takes served = λ old was input told mode d links r. tt
+served_stops e now held holds asked left text (Err f) is takes served = λ old was input told mode d links r.
+    let one = one_of e.words input old mode d links r in
+    let stopped = link_stopped (record { before = e.objects; now = now; held = held; holds = holds }) old d one.link f was one.agrees one.is (served_link e now held holds asked left text (Err f) old input mode d links is takes served told one) in
+    subst (λ m. StoppedIn m old d links now held holds f) (sym one.mode_is) (subst (λ l. StoppedIn single old d l now held holds f) (sym one.links_are) stopped)
+
+-- an input that isn't too long is answered as it is replied
+expects : (e : Entry) (input : List ℕ) (answer : Result Unit Fault) → length input ≤ 2 ^ 28 → answer ≡ expected e input answer
+expects e input answer short = go (wants_input (asked_of e.words)) where
+  within : nat_lt (2 ^ 28) (length input) ≡ false
+  within = grind (arith, nat_tests, short)
+
+  go : (b : Bool) → answer ≡ cond (b && nat_lt (2 ^ 28) (length input)) (Err fault.InputTooLong) answer
+  go true = rw within refl
+  go false = refl
+
+pub served_decided : (e : Entry) (now : Option (List Object)) (held holds : Option (List ℕ)) (asked : Asked) (left : Option (List ℕ)) (text : Vec ℕ Global) (result : Result Unit Fault) → asked_of e.words ≡ Some asked → TakesText (reads_input asked) e.input left (Ok text)
+    → Served (record { before = e.objects; now = now; held = held; holds = holds }) (alone asked text.items) result → Decided e result
+served_decided e now held holds asked left text result is takes served = λ old was input told mode d links r.
+    let one = one_of e.words input old mode d links r in
+    let decided = link_decided (record { before = e.objects; now = now; held = held; holds = holds }) old d one.link result was one.agrees one.is (served_link e now held holds asked left text result old input mode d links is takes served told one) in
+    let same : length input ≤ 2 ^ 28 = subst (λ (t : List ℕ). length t ≤ 2 ^ 28) (heard_is e asked left text is takes input told) (is_short (reads_input asked) e.input left text takes) in
+    elim decided [
+      | inl is_answer ↦
+          let whole : answer_to single (one.link.outcome ∷ []) ≡ answer_to mode (outcomes_of links) = ap (λ m. answer_to m (one.link.outcome ∷ [])) (sym one.mode_is) ∙ ap (λ l. answer_to mode (outcomes_of l)) (sym one.links_are) in
+          inl (is_answer ∙ whole ∙ expects e input (answer_to mode (outcomes_of links)) same)
+      | inr failed ↦ inr failed
+    ]
+
+pub moments_of : (e : Entry) (now : Option (List Object)) (held holds : Option (List ℕ)) (result : Result Unit Fault) → Done e now held holds result → Stops e now held holds result → Moments e now
+moments_of e now held holds result is_done stops = moments_hold e now held holds result is_done stops
+
+-- ---- the order of refusals
+
+wants_none : (e : Entry) → asked_of e.words ≡ None → IsTrue (wants_input (asked_of e.words)) → ⊥
+wants_none e none wants = let no : wants_input (asked_of e.words) ≡ false = ap wants_input none in cc (sym no ∙ wants)
+
+pub served_order : (e : Entry) (asked : Asked) (left : Option (List ℕ)) (text : Vec ℕ Global) (before now : Telling) (result : Result Unit Fault) → asked_of e.words ≡ Some asked → TakesText (reads_input asked) e.input left (Ok text) → WordsFirst asked 0 before now result → Ordered e before now result
+served_order e asked left text before now result is takes words fault.Usage early = absurd (cc (sym is ∙ early))
+served_order e asked left text before now result is takes words fault.InputTooLong early = absurd (never_long e asked left text is takes early)
+served_order e asked left text before now result is takes words f (other, other_is, by_words) =
+    let same : other ≡ asked = same_Some other asked (sym other_is ∙ is) in
+    let (quiet, answer) = words f (subst (λ a. ByWords a 0 f) same by_words) in
+    (quiet, elim answer [ inl is_answer ↦ inl is_answer | inr memory ↦ inr (inr memory) ])
+
+-- ---- the input
+
+ended : (c : Change) (r : Request) (given left : Option (List ℕ)) (result : Result Unit Fault) → ForSome given (λ all. left ≡ Some []) → Served c r result → TakenToEnd given left result
+ended c r given left (Err fault.InputTooLong) all served = absurd served.0
+ended c r given left (Err fault.ReadFault) all served = absurd served.0
+ended c r given left (Err fault.Memory) all served = λ input told. (length input, all input told ∙ sym (ap (option_map (drop (length input))) told ∙ ap (λ l. Some l) (drop_all (length input) input (omega arith))))
+ended c r given left result all served = all
+
+pub served_takes : (c : Change) (r : Request) (b : Bool) (given left : Option (List ℕ)) (text : Vec ℕ Global) (result : Result Unit Fault) → TakesText b given left (Ok text) → Served c r result → TakenBy b given left result
+served_takes c r true given left text result takes served = ended c r given left result (λ all told. (takes.all all told).1) served
+served_takes c r false given left text result takes served = takes.1
+
+-- ---- where the words ask for nothing, or the input isn't read
+
+pub unasked_order : (e : Entry) (before : Telling) → asked_of e.words ≡ None → Ordered e before before (Err fault.Usage)
+unasked_order e before none fault.Usage early = (refl, inl refl)
+unasked_order e before none fault.InputTooLong early = absurd (wants_none e none early.0)
+unasked_order e before none f (asked, is, by_words) = absurd (cc (sym none ∙ is))
+
+-- why the input wasn't read
+pub record Unread (e : Entry) (asked : Asked) (left : Option (List ℕ)) (f : Fault) : Type 0 where
+  pub is : asked_of e.words ≡ Some asked
+  pub reads : reads_input asked ≡ true
+  pub takes : ReadsInput e.input left (Err f)
+
+pub unread_of : (e : Entry) (asked : Asked) (left : Option (List ℕ)) (f : Fault) → asked_of e.words ≡ Some asked → TakesText (reads_input asked) e.input left (Err f) → Unread e asked left f
+unread_of e asked left f is takes = go (reads_input asked) refl takes where
+  go : (b : Bool) → reads_input asked ≡ b → TakesText b e.input left (Err f) → Unread e asked left f
+  go true reads took = record { is = is; reads = reads; takes = took }
+  go false reads took = absurd took
+
+wanted : (e : Entry) (asked : Asked) → asked_of e.words ≡ Some asked → reads_input asked ≡ true → IsTrue (wants_input (asked_of e.words))
+wanted e asked is reads = ap wants_input is ∙ reads
+
+pub unread_ran : (e : Entry) (asked : Asked) (left : Option (List ℕ)) (held : Option (List ℕ)) (f : Fault) → Unread e asked left f → Ran e e.objects held held (Err f)
+unread_ran e asked left held fault.InputTooLong u = ((wanted e asked u.is u.reads, λ input told. (u.takes input told).long), record { objects = refl; sink = refl })
+unread_ran e asked left held fault.ReadFault u = (wanted e asked u.is u.reads, record { objects = refl; sink = refl })
+unread_ran e asked left held fault.Memory u = inl (record { objects = refl; sink = refl })
+unread_ran e asked left held f u = absurd u.takes
+
+pub unread_stops : (e : Entry) (asked : Asked) (left : Option (List ℕ)) (held : Option (List ℕ)) (f : Fault) → Unread e asked left f → Stops e e.objects held held (Err f)
+unread_stops e asked left held fault.InputTooLong u = λ old was input told mode d links r. inl (tt, record { objects = was; sink = refl })
+unread_stops e asked left held fault.ReadFault u = λ old was input told mode d links r. inl (tt, record { objects = was; sink = refl })
+unread_stops e asked left held fault.Memory u = λ old was input told mode d links r. inl (tt, record { objects = was; sink = refl })
+unread_stops e asked left held f u = absurd u.takes
+
+-- too much of an input is answered as it is replied
+too_long : (e : Entry) (asked : Asked) (input : List ℕ) (answer : Result Unit Fault) → asked_of e.words ≡ Some asked → reads_input asked ≡ true → 2 ^ 28 < length input → Err fault.InputTooLong ≡ expected e input answer
+too_long e asked input answer is reads long = rw (wanted e asked is reads, over) refl where
+  over : nat_lt (2 ^ 28) (length input) ≡ true
+  over = grind (arith, nat_tests, long)
+
+given_of : (e : Entry) (asked : Asked) (input : List ℕ) → asked_of e.words ≡ Some asked → reads_input asked ≡ true → heard e ≡ Some input → e.input ≡ Some input
+given_of e asked input is reads told = ap (λ b. cond b e.input (Some [])) (sym (wanted e asked is reads)) ∙ told
+
+pub unread_decided : (e : Entry) (asked : Asked) (left : Option (List ℕ)) (f : Fault) → Unread e asked left f → Decided e (Err f)
+unread_decided e asked left fault.InputTooLong u = λ old was input told mode d links r. inl (too_long e asked input (answer_to mode (outcomes_of links)) u.is u.reads (u.takes input (given_of e asked input u.is u.reads told)).long)
+unread_decided e asked left fault.ReadFault u = λ old was input told mode d links r. inr tt
+unread_decided e asked left fault.Memory u = λ old was input told mode d links r. inr tt
+unread_decided e asked left f u = absurd u.takes
+
+-- a command that reads input decides nothing by its own words
+no_words : (asked : Asked) (f : Fault) → reads_input asked ≡ true → ByWords asked 0 f → ⊥
+no_words (create json) f reads by_words = cc reads
+no_words append fault.NotBuilt reads by_words = by_words
+no_words append (fault.BadInput line why) reads by_words = by_words
+no_words append f reads by_words = absurd by_words
+no_words scan f reads by_words = cc reads
+no_words schema f reads by_words = cc reads
+
+pub unread_order : (e : Entry) (asked : Asked) (left : Option (List ℕ)) (before : Telling) (f : Fault) → Unread e asked left f → Ordered e before before (Err f)
+unread_order e asked left before f u fault.Usage early = absurd (cc (sym u.is ∙ early))
+unread_order e asked left before fault.InputTooLong u fault.InputTooLong early = (refl, inl refl)
+unread_order e asked left before fault.ReadFault u fault.InputTooLong early = (refl, inr (inl refl))
+unread_order e asked left before fault.Memory u fault.InputTooLong early = (refl, inr (inr refl))
+unread_order e asked left before f u fault.InputTooLong early = absurd u.takes
+unread_order e asked left before f u g (other, other_is, by_words) =
+    let same : other ≡ asked = same_Some other asked (sym other_is ∙ u.is) in
+    absurd (no_words asked g u.reads (subst (λ a. ByWords a 0 g) same by_words))
+
+unread_takes_as : (given left : Option (List ℕ)) (f : Fault) → ReadsInput given left (Err f) → TakenToEnd given left (Err f)
+unread_takes_as given left fault.InputTooLong takes = takes
+unread_takes_as given left fault.ReadFault takes = λ input told. takes
+unread_takes_as given left fault.Memory takes = λ input told. takes
+unread_takes_as given left f takes = absurd takes
+
+pub unread_takes : (e : Entry) (asked : Asked) (left : Option (List ℕ)) (f : Fault) → Unread e asked left f → TakenBy (wants_input (asked_of e.words)) e.input left (Err f)
+unread_takes e asked left f u = subst (λ b. TakenBy b e.input left (Err f)) (sym (wanted e asked u.is u.reads)) (unread_takes_as e.input left f u.takes)
+
+pub takes_as : (e : Entry) (asked : Asked) (left : Option (List ℕ)) (text : Vec ℕ Global) (c : Change) (r : Request) (result : Result Unit Fault) → asked_of e.words ≡ Some asked → TakesText (reads_input asked) e.input left (Ok text) → Served c r result
+    → TakenBy (wants_input (asked_of e.words)) e.input left result
+takes_as e asked left text c r result is takes served = subst (λ a. TakenBy (wants_input a) e.input left result) (sym is) (served_takes c r (reads_input asked) e.input left text result takes served)

@@ -1,99 +1,101 @@
--- Why each fault comes: one word a variant.
-use Rattle.std.specs.Prelude.{◌≡◌, ◌⊎◌, ℕ, ◌<◌, ◌^◌, ⊤, List, [], length, Option, Some, None, Result, Ok, Err}
+-- Why a command is refused, on the objects at its step: one word a fault.
+use Rattle.std.specs.Prelude.{◌≡◌, ℕ, ⊤, List, map, IsTrue, Option, Some, Result, Ok, Err}
 use Rattle.std.specs.Option.{ForSome}
+use Rattle.lan_model.specs.Plain.{PlainField, PlainValue, unnumbered}
 use Rattle.lan_model.specs.Table.{Table}
 use Rattle.lan_store.specs.declared.name.Name.{Name}
 use Rattle.lan_store.specs.declared.name.Object.{Object}
-use Rattle.lance_cli.specs.Appends.{RefusesLine, ReachesLimit}
-use Rattle.lance_cli.specs.Commands.{Asked, create, append}
-use Rattle.lance_cli.specs.Creates.{RefusesForm, IsUnbuilt, IsLimited}
-use Rattle.lan_read.specs.Reasons.{Stands}
-use Rattle.lance_cli.specs.Replies.{asked_of}
-use Rattle.lan_read.specs.Standing.{StandsAt}
+use Rattle.lan_manifest.specs.Manifests.{PlainManifest}
 use Rattle.lan_manifest.specs.Versions.{IsNewest, NoneListed}
+use Rattle.lan_rows.specs.Lines.{rows_of}
+use Rattle.lan_rows.specs.declared.lines.LinesFault.{LinesFault}
+use Rattle.lan_read.specs.Newest.{NewestManifest}
+use Rattle.lan_read.specs.Reasons.{Stands, StandsUnread}
+use Rattle.lan_read.specs.Standing.{StandsAt}
+use Rattle.lan_read.specs.declared.fault.Reason.{Reason}
+use Rattle.lan_commit.specs.First.{first_limit}
+use Rattle.lan_commit.specs.Puts.{limit_of_append}
+use Rattle.lan_commit.specs.declared.limits.Which.{Which}
+use Rattle.lance_cli.specs.Commands.{Asked, create, append, scan, schema, reads_version, is_change, Request}
+use Rattle.lance_cli.specs.Creates.{Takes, IsTaken, RefusesForm, IsUnbuilt}
+use Rattle.lance_cli.specs.Faults.{of_lines}
 use Rattle.lance_cli.specs.declared.fault.Fault.{Fault}
 use Rattle.lance_cli.specs.declared.fault.Fault.TheVariants as fault
-use Rattle.lan_read.specs.declared.fault.Reason.{Reason}
-use Rattle.lan_commit.specs.declared.limits.Which.{Which}
 
--- the words, the objects where they are told, and the input where it is told, all as they were before
-pub record Entry : Type 0 where
-  pub words : List (List ℕ)
-  pub objects : Option (List Object)
-  pub input : Option (List ℕ)
+-- ---- what each command brings
 
--- what a command hears of the input: one that reads none hears nothing, whatever is told
-abbrev pub hears : Option Asked → Option (List ℕ) → Option (List ℕ)
-hears (Some append) input = input
-hears asked input = Some []
+-- a version that the command reads
+abbrev pub Reads : List Object → Asked → ℕ → Type 0
+Reads objects (create json) version = ⊥
+Reads objects append version = IsNewest objects version
+Reads objects scan version = IsNewest objects version
+Reads objects schema version = IsNewest objects version
 
-abbrev pub heard : Entry → Option (List ℕ)
-heard e = hears (asked_of e.words) e.input
+-- the reason stands in what the command reads of the version: one that prints rows reads all of it, and the others its manifest
+abbrev pub StandsIn : Asked → List Object → ℕ → Name → Reason → ℕ → Type 0
+StandsIn (create json) objects version name why place = ⊥
+StandsIn append objects version name why place = StandsUnread objects version name why place
+StandsIn scan objects version name why place = Stands objects version name why place
+StandsIn schema objects version name why place = StandsUnread objects version name why place
 
--- what reads the newest version
-abbrev pub ReadsNewest : Entry → Type 0
-ReadsNewest e = (asked : Asked) × (asked_of e.words ≡ Some asked) × ((json : List ℕ) → asked ≡ create json → ⊥)
+-- a line is no row of the newest manifest's fields, and the fault says which is the first, and why
+abbrev pub RefusesLines : List (ℕ × List ℕ) → Fault → List Object → Type 0
+RefusesLines lines f objects = (m : PlainManifest) × (why : LinesFault) × NewestManifest objects m × (rows_of (map unnumbered m.fields) lines ≡ Err why) × (f ≡ of_lines why)
 
-abbrev pub NoDataset : Entry → Type 0
-NoDataset e = ReadsNewest e × ForSome e.objects NoneListed
+-- the command's own words are outside of their form, and the fault says why, at the number of their line
+abbrev pub BadWords : Asked → ℕ → Fault → Type 0
+BadWords (create json) line f = RefusesForm json line f
+BadWords append line f = ⊥
+BadWords scan line f = ⊥
+BadWords schema line f = ⊥
 
-abbrev pub AlreadyThere : Entry → ℕ → Type 0
-AlreadyThere e version = ((json : List ℕ) × (asked_of e.words ≡ Some (create json))) × ForSome e.objects (λ all. IsNewest all version)
+-- its words or one of its lines are outside of their form
+abbrev pub BadInput : Option (List Object) → Request → Asked → Fault → Type 0
+BadInput objects r (create json) f = RefusesForm json r.line f
+BadInput objects r append f = ForSome objects (RefusesLines r.lines f)
+BadInput objects r scan f = ⊥
+BadInput objects r schema f = ⊥
 
-abbrev pub NotBuilt : Entry → Type 0
-NotBuilt e = (json : List ℕ) × (asked_of e.words ≡ Some (create json)) × IsUnbuilt json
+-- a new dataset is asked for
+abbrev pub Makes : Asked → Type 0
+Makes (create json) = IsTaken json
+Makes append = ⊥
+Makes scan = ⊥
+Makes schema = ⊥
 
--- the text of a new dataset's schema is none
-abbrev pub BadSchema : Entry → Fault → Type 0
-BadSchema e f = (json : List ℕ) × (asked_of e.words ≡ Some (create json)) × RefusesForm json f
+abbrev pub IsNotBuilt : Asked → Type 0
+IsNotBuilt (create json) = IsUnbuilt json
+IsNotBuilt append = ⊥
+IsNotBuilt scan = ⊥
+IsNotBuilt schema = ⊥
 
--- a line of the input is no row of the newest version
-abbrev pub BadLine : Entry → Fault → Type 0
-BadLine e f = (asked_of e.words ≡ Some append) × ForSome e.objects (λ all. ForSome e.input (λ input. RefusesLine all input f))
+-- an append of the lines' rows reaches the limit
+abbrev pub Reaches : List (ℕ × List ℕ) → Which → ℕ → List Object → Type 0
+Reaches lines which number objects = (m : PlainManifest) × (rows : List (List PlainValue)) × NewestManifest objects m × (rows_of (map unnumbered m.fields) lines ≡ Ok rows) × (limit_of_append objects m rows ≡ Some (which, number))
 
-abbrev pub BadInput : Entry → ℕ → List ℕ → Type 0
-BadInput e line why = BadSchema e (fault.BadInput line why) ⊎ BadLine e (fault.BadInput line why)
+-- the change reaches the limit
+abbrev pub Limited : Option (List Object) → Request → Asked → Which → ℕ → Type 0
+Limited objects r (create json) which number = ((fields : List (PlainField ℕ)) × Takes json fields × (first_limit fields ≡ Some (which, number))) × ForSome objects NoneListed
+Limited objects r append which number = ForSome objects (Reaches r.lines which number)
+Limited objects r scan which number = ⊥
+Limited objects r schema which number = ⊥
 
--- the command reads input, and there is too much of it
-abbrev pub IsLong : Asked → List ℕ → Type 0
-IsLong append input = 2 ^ 28 < length input
-IsLong asked input = ⊥
+-- ---- the causes
 
-abbrev pub InputTooLong : Entry → Type 0
-InputTooLong e = (asked : Asked) × (asked_of e.words ≡ Some asked) × ForSome e.input (IsLong asked)
+-- a version that the command reads stands for no table, and the reason stands in what is read
+abbrev pub IsOutside : Asked → Name → Reason → ℕ → List Object → Type 0
+IsOutside asked name why place objects = (version : ℕ) × Reads objects asked version × ((t : Table) → StandsAt objects version t → ⊥) × StandsIn asked objects version name why place
 
--- a new dataset reaches the limit
-abbrev pub FirstLimit : Entry → Which → ℕ → Type 0
-FirstLimit e which number = (json : List ℕ) × (asked_of e.words ≡ Some (create json)) × IsLimited json which number × ForSome e.objects NoneListed
-
--- an append of the input's rows reaches it
-abbrev pub AppendLimit : Entry → Which → ℕ → Type 0
-AppendLimit e which number = (asked_of e.words ≡ Some append) × ForSome e.objects (λ all. ForSome e.input (λ input. ReachesLimit all input which number))
-
-abbrev pub Limit : Entry → Which → ℕ → Type 0
-Limit e which number = FirstLimit e which number ⊎ AppendLimit e which number
-
--- the version that is read is listed, and doesn't stand, and the reason stands
-abbrev pub Outside : Entry → Name → Reason → ℕ → Type 0
-Outside e name why place = ReadsNewest e × ForSome e.objects (λ all. (version : ℕ) × IsNewest all version × ((t : Table) → StandsAt all version t → ⊥) × Stands all version name why place)
-
--- never where the store tells
-abbrev pub Raced : Entry → Type 0
-Raced e = ForSome e.objects (λ _. ⊥)
-
-abbrev pub Cause : Entry → Result Unit Fault → Type 0
-Cause e (Ok _) = (asked : Asked) × (asked_of e.words ≡ Some asked) × ForSome e.input (λ input. IsLong asked input → ⊥)
-Cause e (Err fault.Usage) = asked_of e.words ≡ None
-Cause e (Err fault.NotBuilt) = NotBuilt e
-Cause e (Err (fault.BadInput line why)) = BadInput e line why
-Cause e (Err fault.InputTooLong) = InputTooLong e
-Cause e (Err fault.NoDataset) = NoDataset e
-Cause e (Err (fault.AlreadyThere version)) = AlreadyThere e version
-Cause e (Err (fault.Limit which number)) = Limit e which number
-Cause e (Err (fault.Outside name why place)) = Outside e name why place
-Cause e (Err (fault.Raced name)) = Raced e
-Cause e (Err (fault.StoreFault name)) = ⊤
-Cause e (Err fault.ReadFault) = asked_of e.words ≡ Some append
-Cause e (Err fault.WriteFault) = ⊤
-Cause e (Err fault.Memory) = ⊤
-Cause e (Err f) = ⊥
+-- why the requested command is refused on these objects
+abbrev pub Cause : Option (List Object) → Request → Fault → Type 0
+Cause objects r fault.NotBuilt = IsNotBuilt r.asked
+Cause objects r (fault.BadInput line why) = BadInput objects r r.asked (fault.BadInput line why)
+Cause objects r fault.NoDataset = IsTrue (reads_version r.asked) × ForSome objects NoneListed
+Cause objects r (fault.AlreadyThere version) = Makes r.asked × ForSome objects (λ all. IsNewest all version)
+Cause objects r (fault.Limit which number) = Limited objects r r.asked which number
+Cause objects r (fault.Outside name why place) = IsTrue (reads_version r.asked) × ForSome objects (IsOutside r.asked name why place)
+Cause objects r (fault.Raced name) = IsTrue (is_change r.asked) × ForSome objects (λ all. ⊥)
+Cause objects r (fault.StoreFault name) = ⊤
+Cause objects r fault.WriteFault = ⊤
+Cause objects r fault.Memory = ⊤
+Cause objects r f = ⊥

@@ -115,10 +115,10 @@ of_commit (unmade.Raced name) = fault.Raced name
 of_commit (unmade.Store name) = fault.StoreFault name
 of_commit unmade.Memory = fault.Memory
 
--- a text that is no schema, and lines that are no rows, as the program's own
-abbrev pub of_form : FormFault → Fault
-of_form form.Memory = fault.Memory
-of_form f = fault.BadInput 0 (why f)
+-- a text that is no schema, at the number of its line, and lines that are no rows, as the program's own
+abbrev pub of_form : ℕ → FormFault → Fault
+of_form line form.Memory = fault.Memory
+of_form line f = fault.BadInput line (why f)
 
 abbrev pub of_lines : LinesFault → Fault
 of_lines (lines.Bad number f) = fault.BadInput number (why_line (lines.Bad number f))

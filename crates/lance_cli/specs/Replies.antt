@@ -1,5 +1,5 @@
 -- Commands as they are told, and what is replied to them: a fold over tables alone.
-use Rattle.std.specs.Prelude.{◌≡◌, ℕ, List, [], ◌∷◌, ◌++◌, flat_map, cond, codes, Option, Some, None, unwrap_or, option_map, option_and_then, Result, Ok, Err}
+use Rattle.std.specs.Prelude.{◌≡◌, ℕ, List, [], ◌∷◌, ◌++◌, length, sum, flat_map, Bool, true, false, cond, ◌&&◌, ◌||◌, nat_eq, nat_le, codes, decimal, Option, Some, None, unwrap_or, option_map, option_and_then, Result, Ok, Err, is_ok}
 use Rattle.lan_model.specs.Plain.{PlainValue}
 use Rattle.lan_model.specs.Table.{Column, Table}
 use Rattle.lan_model.specs.Dataset.{Dataset, newest, table_at}
@@ -10,23 +10,23 @@ use Rattle.lan_form.specs.Judged.{Judged}
 use Rattle.lan_rows.specs.Line.{line_of}
 use Rattle.lan_rows.specs.Lines.{rows_of, cut}
 use Rattle.lan_rows.specs.declared.lines.LinesFault.{LinesFault}
-use Rattle.lance_cli.specs.Commands.{Asked, create, append, scan, schema, in_words}
-use Rattle.lance_cli.specs.Faults.{fault_text, of_form, of_lines}
+use Rattle.lance_cli.specs.Commands.{Asked, create, append, scan, schema, in_words, reads_input, Request}
+use Rattle.lance_cli.specs.Faults.{status_of, fault_text, of_form, of_lines}
 use Rattle.lance_cli.specs.Reports.{version_text, schema_text}
 use Rattle.lance_cli.specs.Stage.{is_taken, is_built}
 use Rattle.lance_cli.specs.declared.fault.Fault.{Fault}
 use Rattle.lance_cli.specs.declared.fault.Fault.TheVariants as fault
 use Rattle.lan_commit.specs.declared.limits.Which.{Which}
 
--- what the objects show at a command
+-- what the objects show at a command: a limit that it reaches, a version with which it conflicts, and how many zones it stores
 pub record Shown : Type 0 where
   pub limit : Option (Which × ℕ)
+  pub conflict : Option ℕ
+  pub zones : ℕ
 
--- a command as it is told: what its words ask for, its own line, its numbered lines, and what the objects show
+-- a command as it is told: what it requests, and what the objects show at it
 pub record Told : Type 0 where
-  pub asked : Asked
-  pub line : ℕ
-  pub lines : List (ℕ × List ℕ)
+  pub request : Request
   pub shown : Shown
 
 -- what is replied: a refusal, or a text and the dataset after it
@@ -57,9 +57,10 @@ changed_to shown (Err refusal) = refused (fault_of refusal)
 abbrev pub change_reply : Dataset → Shown → Command → Option Outcome
 change_reply d shown command = option_map (changed_to shown) (after d command)
 
-abbrev pub create_reply : Dataset → Shown → Judged (List Column) → Option Outcome
-create_reply d shown (Ok columns) = cond (is_built columns) (change_reply d shown (change.create columns)) (Some (refused fault.NotBuilt))
-create_reply d shown (Err f) = Some (refused (of_form f))
+-- the words are a line of the command's own
+abbrev pub create_reply : Dataset → ℕ → Shown → Judged (List Column) → Option Outcome
+create_reply d line shown (Ok columns) = cond (is_built columns) (change_reply d shown (change.create columns)) (Some (refused fault.NotBuilt))
+create_reply d line shown (Err f) = Some (refused (of_form line f))
 
 abbrev pub append_reply : Dataset → Shown → Result (List (List PlainValue)) LinesFault → Option Outcome
 append_reply d shown (Ok rows) = change_reply d shown (change.append rows)
@@ -71,28 +72,95 @@ on_version d read None = Some (refused fault.NoDataset)
 on_version d read (Some version) = option_and_then read (table_at d version)
 
 abbrev pub answer : Dataset → Told → Asked → Option Outcome
-answer d told (create json) = create_reply d told.shown (form json)
-answer d told append = on_version d (λ t. append_reply d told.shown (rows_of t.columns told.lines)) (newest d)
+answer d told (create json) = create_reply d told.request.line told.shown (form json)
+answer d told append = on_version d (λ t. append_reply d told.shown (rows_of t.columns told.request.lines)) (newest d)
 answer d told scan = on_version d (λ t. Some (done (flat_map (line_of t.columns) t.rows) d)) (newest d)
 answer d told schema = on_version d (λ t. Some (done (schema_text t.columns) d)) (newest d)
 
 -- the reply to one command; `None` where it reads a version that is listed and doesn't stand
 abbrev pub reply : Dataset → Told → Option Outcome
-reply d told = answer d told told.asked
+reply d told = answer d told told.request.asked
 
--- the text by which a list of commands is answered
-abbrev pub text_by : Outcome → List ℕ
-text_by (refused f) = codes "refused: " ++ (fault_text f ++ codes "\n")
-text_by (done text d) = text
+-- ---- a list of commands
+
+-- how a list is answered: a command by itself, the commands of a batch, or those of `generate`
+pub data Mode : Type 0 where
+  single : Mode
+  batch : Mode
+  generate : Mode
+
+-- what is said of an outcome: a text, or a refusal
+abbrev pub said_by : Outcome → Result (List ℕ) Fault
+said_by (refused f) = Err f
+said_by (done text later) = Ok text
+
+-- the refusals that are a reply of a batch
+abbrev pub is_replied : Fault → Bool
+is_replied f = nat_eq (status_of f) 3 || (nat_le 5 (status_of f) && nat_le (status_of f) 14)
+
+-- whether the commands behind one of which this is said have their turn
+abbrev pub goes_on : Mode → Result (List ℕ) Fault → Bool
+goes_on mode (Ok text) = true
+goes_on single (Err f) = false
+goes_on batch (Err f) = is_replied f
+goes_on generate (Err f) = false
 
 abbrev pub left_by : Dataset → Outcome → Dataset
 left_by d (refused f) = d
 left_by d (done text later) = later
 
--- the text and the dataset after a list of told commands, one after another
-abbrev pub replies : List Told → Dataset → Option (List ℕ × Dataset)
-replies [] d = Some ([], d)
-replies (told ∷ more) d = option_and_then (λ outcome. option_map (λ rest. (text_by outcome ++ rest.0, rest.1)) (replies more (left_by d outcome))) (reply d told)
+-- the outcomes of told commands in turn, up to the first that ends the list
+abbrev pub outcomes : Mode → List Told → Dataset → Option (List Outcome)
+outcomes mode [] d = Some []
+outcomes mode (told ∷ more) d = option_and_then (λ o. option_map (λ os. o ∷ os) (cond (goes_on mode (said_by o)) (outcomes mode more (left_by d o)) (Some []))) (reply d told)
+
+abbrev pub left_after : Dataset → List Outcome → Dataset
+left_after d [] = d
+left_after d (o ∷ os) = left_after (left_by d o) os
+
+-- the answer: of the first refusal that ends the list, or an Ok
+abbrev pub answer_to : Mode → List Outcome → Result Unit Fault
+answer_to mode [] = Ok tt
+answer_to mode (done text later ∷ os) = answer_to mode os
+answer_to mode (refused f ∷ os) = cond (goes_on mode (Err f)) (answer_to mode os) (Err f)
+
+-- what a command prints in its turn: of `generate` nothing comes before the end
+abbrev pub text_by : Mode → Result (List ℕ) Fault → List ℕ
+text_by single (Ok text) = text
+text_by single (Err f) = []
+text_by batch (Ok text) = text
+text_by batch (Err f) = cond (is_replied f) (codes "refused: " ++ (fault_text f ++ codes "\n")) []
+text_by generate said = []
+
+-- the rows of a table, the bytes of its scan, and the sum of these bytes
+abbrev pub summary_of : List ℕ → ℕ → List ℕ
+summary_of scanned rows = codes "rows " ++ (decimal rows ++ (codes "\nbytes " ++ (decimal (length scanned) ++ (codes "\nsum " ++ (decimal (sum scanned) ++ codes "\n")))))
+
+abbrev pub summary : Option Table → List ℕ
+summary None = []
+summary (Some t) = summary_of (flat_map (line_of t.columns) t.rows) (length t.rows)
+
+-- what is printed once all commands are done: of `generate` the summary of the newest table
+abbrev pub closing : Mode → Dataset → List ℕ
+closing single d = []
+closing batch d = []
+closing generate d = summary (option_and_then (table_at d) (newest d))
+
+-- the text and the dataset after a list, and its answer
+pub record Replied : Type 0 where
+  pub text : List ℕ
+  pub later : Dataset
+  pub answer : Result Unit Fault
+
+abbrev pub texts : Mode → List Outcome → List ℕ
+texts mode os = flat_map (λ o. text_by mode (said_by o)) os
+
+abbrev pub replied : Mode → Dataset → List Outcome → Replied
+replied mode d os = record { text = texts mode os ++ cond (is_ok (answer_to mode os)) (closing mode (left_after d os)) []; later = left_after d os; answer = answer_to mode os }
+
+-- what is replied to told commands, one after another; `None` where one reads a version that is listed and doesn't stand
+abbrev pub replies : Mode → List Told → Dataset → Option Replied
+replies mode told d = option_map (replied mode d) (outcomes mode told d)
 
 -- the words ask for a command that the program takes
 abbrev pub if_taken : Asked → Option Asked
@@ -101,13 +169,11 @@ if_taken asked = cond (is_taken asked) (Some asked) None
 abbrev pub asked_of : List (List ℕ) → Option Asked
 asked_of words = option_and_then if_taken (in_words words)
 
--- the lines that a command is given
-abbrev pub lines_for : Asked → List ℕ → List (ℕ × List ℕ)
-lines_for append input = cut 1 [] input
-lines_for asked input = []
+-- a command by itself: its words are line 0, and its lines are those of the input
+abbrev pub alone : Asked → List ℕ → Request
+alone asked input = record { asked = asked; line = 0; lines = cond (reads_input asked) (cut 1 [] input) [] }
 
--- what the words and the input tell
-pub record Tells (words : List (List ℕ)) (input : List ℕ) (told : Told) : Type 0 where
-  pub asked : asked_of words ≡ Some told.asked
-  pub line : told.line ≡ 0
-  pub lines : told.lines ≡ lines_for told.asked input
+-- what the words and the input tell: the requests, and how their list is answered; one by itself so far
+abbrev pub Tells : List (List ℕ) → List ℕ → Mode → List Request → Type 0
+Tells words input single (r ∷ []) = (asked_of words ≡ Some r.asked) × (r ≡ alone r.asked input)
+Tells words input mode requests = ⊥

@@ -1,6 +1,6 @@
 // What the words ask for.
 ghost use Rattle.std.specs.Prelude.{◌≡◌, option_map};
-ghost use Rattle.lance_cli.specs.Commands.{one_word, no_word, asked_as};
+ghost use Rattle.lance_cli.specs.Commands.{one_word, no_word, asked_as, reads_input};
 ghost use Rattle.lance_cli.specs.Replies.{asked_of};
 
 use lan_model::{Text, Words};
@@ -16,6 +16,18 @@ pub enum Asked<'a> {
     Scan,
     /// The fields of the newest version.
     Schema,
+}
+
+impl Asked<'_> {
+    /// Whether the command reads the input, as its lines.
+    pub fn reads_input(&self) -> bool
+        ensures { result ≡ reads_input (asked_as self.now) }
+    {
+        match self {
+            Asked::Append => true,
+            Asked::Create(_) | Asked::Scan | Asked::Schema => false,
+        }
+    }
 }
 
 /// The command that the words ask for, where they obey the rule of words.

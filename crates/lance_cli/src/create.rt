@@ -1,52 +1,56 @@
 // A new dataset, of the fields that a text gives.
-ghost use Rattle.std.specs.Prelude.{◌≡◌, ◌∷◌, [], ℕ, Some, map, IsTrue, IsErrOf, IfOk};
-ghost use Rattle.std.specs.Option.{ForSome};
+ghost use Rattle.std.specs.Prelude.{◌≡◌, ◌∷◌, [], ℕ, List, map, IsTrue};
 ghost use Rattle.lan_form.specs.Numbers.{CountsFrom, CountFrom};
 ghost use Rattle.lan_manifest.specs.Columns.{IsColumn};
 ghost use Rattle.lan_manifest.specs.Stage.{IsOneColumn};
 ghost use Rattle.lan_model.specs.Plain.{plain_type, plain_field, plain_fields};
 ghost use Rattle.lan_model.specs.PlainTable.{column_of};
 ghost use Rattle.lan_model.specs.Table.{AreColumns};
-ghost use Rattle.lan_store.specs.declared.name.Name.{Name};
-ghost use Rattle.lan_store.specs.Causes.{HasCause};
-ghost use Rattle.lance_cli.specs.Creates.{CreateServed, ReadsFields};
+ghost use Rattle.lan_store.specs.Budget.{nothing};
+ghost use Rattle.lan_store.specs.Looked.{Looked};
+ghost use Rattle.lance_cli.specs.Commands.{create};
+ghost use Rattle.lance_cli.specs.Creates.{ReadsFields};
+ghost use Rattle.lance_cli.specs.Failures.{failure_of};
+ghost use Rattle.lance_cli.specs.Plans.{Plans};
 ghost use Rattle.lance_cli.specs.Stage.{is_fixed, is_built};
+ghost use Rattle.lance_cli.specs.Words.{WordsFirst};
 
+use crate::change::Planned;
 use crate::fault::{Fault, of_form};
-use crate::reply::{print_reply, version_line};
-use lan_commit::create;
+use lan_commit::prepare_create;
 use lan_form::from_json;
 use lan_model::{Field, FieldList, Ty};
-use lan_store::{Sink, Store};
+use lan_store::Store;
+use lan_store::laws::looks_add_up;
 use std::alloc::Global;
 
-/// Makes a dataset of the fields that the text gives, and prints its version.
-pub fn serve_create<S: Store, O: Sink>(
+/// Plans to make a dataset of the fields that the text gives, which stands in this line. Nothing is put.
+pub fn plan_create<S: Store>(
     alloc: Global,
     json: &str,
+    line: u64,
     store: &mut S,
-    out: &mut O,
-) -> Result<(), Fault>
-    ensures served { CreateServed json.now (S.objects store.old) (S.objects store.new) (O.held out.old) (O.held out.new) result }
-    ensures store_cause { HasCause ((name : Name) × IsErrOf result (Fault.StoreFault name)) (S.faults store.old) (S.faults store.new) }
-    ensures store_name { (name : Name) → IsErrOf result (Fault.StoreFault name) → ForSome (S.objects store.old) (λ _. S.failed store.new ≡ Some name) }
-    ensures raced_cause { HasCause ((name : Name) × IsErrOf result (Fault.Raced name)) (S.clashes store.old) (S.clashes store.new) }
-    ensures write_cause { HasCause (IsErrOf result Fault.WriteFault) (O.faults out.old) (O.faults out.new) }
+) -> Result<Planned, Fault>
+    ensures plans { (lines : List (ℕ × List ℕ)) → Plans (S.tells store.old).objects (record { asked = create json.now; line = line; lines = lines }) result }
+    ensures words { WordsFirst (create json.now) line (S.tells store.old) (S.tells store.new) result }
+    ensures looked { Looked (failure_of result) nothing (S.tells store.old) (S.tells store.new) }
 {
-    let fields = read_fields(alloc, json)?;
-    // The reply is made before anything is put, so that want of memory can't follow the effect.
-    let reply = version_line(alloc, 1)?;
-    create(alloc, store, fields)?;
-    print_reply(out, reply.as_bytes())
+    looks_add_up();
+    let fields = read_fields(alloc, json, line)?;
+    let objects = prepare_create(alloc, store, fields)?;
+    Ok(Planned {
+        version: 1,
+        objects,
+    })
 }
 
 // The fields of a text of which the program makes tables.
-fn read_fields(alloc: Global, json: &str) -> Result<FieldList, Fault>
-    ensures { ReadsFields json.now result }
+fn read_fields(alloc: Global, json: &str, line: u64) -> Result<FieldList, Fault>
+    ensures { ReadsFields json.now line result }
 {
     let fields = match from_json(alloc, json) {
         Ok(fields) => fields,
-        Err(fault) => return Err(of_form(alloc, &fault)?),
+        Err(fault) => return Err(of_form(alloc, line, &fault)?),
     };
     if !are_built(fields.as_slice()) {
         return Err(Fault::NotBuilt);

@@ -124,13 +124,13 @@ impl From<ScanFault> for Fault {
     }
 }
 
-/// Why a text is no schema, as a refusal of line 0.
-pub fn of_form(alloc: Global, fault: &FormFault) -> Result<Fault, AllocError>
-    ensures { IfOk result (λ f. f ≡ of_form fault.now) }
+/// Why a text is no schema, as a refusal of its line.
+pub fn of_form(alloc: Global, line: u64, fault: &FormFault) -> Result<Fault, AllocError>
+    ensures { IfOk result (λ f. f ≡ of_form line fault.now) }
 {
     match fault {
         FormFault::Memory => Ok(Fault::Memory),
-        _ => Ok(Fault::BadInput(0, lan_form::why(alloc, fault)?)),
+        _ => Ok(Fault::BadInput(line, lan_form::why(alloc, fault)?)),
     }
 }
 

@@ -45,7 +45,7 @@ fn words_of(alloc: Global, fault: &Fault) -> Result<String, AllocError>
         }
         Fault::Outside(name, reason, place) => {
             let path = name.path(alloc)?;
-            let code = reason_code(alloc, *reason)?;
+            let code = reason_code(alloc, reason)?;
             format!(in alloc; "outside: {path}: {code} at {place}")
         }
         Fault::Raced(name) => {
@@ -105,15 +105,15 @@ fn which_text(which: Which) -> &'static str
     }
 }
 
-fn reason_code(alloc: Global, reason: Reason) -> Result<String, AllocError>
-    ensures { IfOk result (λ code. string_bytes code ≡ reason_code reason) }
+fn reason_code(alloc: Global, reason: &Reason) -> Result<String, AllocError>
+    ensures { IfOk result (λ code. string_bytes code ≡ reason_code reason.now) }
 {
     match reason {
         Reason::Missing => String::from_str(alloc, "missing"),
         Reason::Size => String::from_str(alloc, "size"),
         Reason::Short => String::from_str(alloc, "short"),
         Reason::Manifest(ManifestReason::Plain) => String::from_str(alloc, "manifest-plain"),
-        Reason::File(reason) => file_code(alloc, reason),
+        Reason::File(reason) => file_code(alloc, *reason),
     }
 }
 

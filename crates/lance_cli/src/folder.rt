@@ -186,17 +186,7 @@ impl<R: Files + AllocGlobal + Clone + Drop> FolderStore<R> {
 }
 
 impl<R: Files + AllocGlobal + Clone + Drop> Store for FolderStore<R> {
-    ghost objects = { λ _. None };
-
-    ghost failed = { λ _. None };
-
-    ghost faults = { λ s. s.faults };
-
-    ghost gets = { λ s. s.gets };
-
-    ghost got = { λ s. s.got };
-
-    ghost clashes = { λ s. s.clashes };
+    ghost tells = { λ s. record { objects = None; failed = None; faults = s.faults; gets = s.gets; got = s.got; clashes = s.clashes } };
 
     ghost distinct = { λ _. nothing_told };
 
@@ -208,6 +198,7 @@ impl<R: Files + AllocGlobal + Clone + Drop> Store for FolderStore<R> {
             Ok(found) if found.is_file() => Ok(found.len()),
             Ok(_) => Err(SizeFault::Missing),
             Err(error) if is_missing(&error) => Err(SizeFault::Missing),
+            Err(error) if is_memory(&error) => Err(SizeFault::Memory),
             Err(_) => {
                 self.fail();
                 Err(SizeFault::Failed)

@@ -2,11 +2,14 @@
 #![tactic(auto)]
 
 mod append;
+mod change;
 mod command;
 mod create;
 mod fault;
 mod fault_text;
 mod folder;
+mod input;
+mod laws;
 mod reply;
 mod run;
 mod scan;

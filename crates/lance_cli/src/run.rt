@@ -1,20 +1,25 @@
-// The top call: what a command does, and what that means.
-ghost use Rattle.std.specs.Prelude.{◌≡◌, ℕ, Some, IsErrOf};
-ghost use Rattle.std.specs.Option.{ForSome};
-ghost use Rattle.lan_store.specs.declared.name.Name.{Name};
+// The top call: what the commands do in turn, and what that means.
+ghost use Rattle.std.specs.Prelude.{[], cond, IsTrue, IsErrOf};
+ghost use Rattle.lan_rows.specs.Lines.{cut};
 ghost use Rattle.lan_store.specs.Causes.{HasCause};
-ghost use Rattle.lance_cli.specs.Causes.{Cause};
-ghost use Rattle.lance_cli.specs.Clauses.{Kept, Done, Decided, Refused, Moments, Fails, Leaves, Prints, TakenBy};
+ghost use Rattle.lan_store.specs.Looked.{Fails};
+ghost use Rattle.lance_cli.specs.Commands.{asked_as, reads_input};
+ghost use Rattle.lance_cli.specs.Failures.{failure_of, clashed};
 ghost use Rattle.lance_cli.specs.Replies.{asked_of};
+ghost use Rattle.lance_cli.specs.Runs.{Kept, Ran, Done, Stops, Decided, Moments, Ordered, TakenBy, wants_input};
 ghost use Rattle.lance_cli.specs.Served.{Served};
+ghost use Rattle.lance_cli.specs.Words.{WordsFirst};
 
-use crate::append::serve_append;
+use crate::append::plan_append;
+use crate::change::apply;
 use crate::command::{Asked, asked_of};
-use crate::create::serve_create;
+use crate::create::plan_create;
 use crate::fault::Fault;
+use crate::input::take_text;
 use crate::scan::serve_scan;
 use crate::schema::serve_schema;
 use lan_model::Words;
+use lan_store::laws::{looks_add_up, puts_follow_looks};
 use lan_store::{Sink, Source, Store};
 use std::alloc::Global;
 
@@ -30,56 +35,66 @@ pub fn run<S: Store, I: Source, O: Sink>(
     out: &mut O,
 ) -> Result<(), Fault>
     // Every version that stood stands for the same table.
-    ensures kept { Kept (S.objects store.old) (S.objects store.new) }
+    ensures kept { Kept (S.tells store.old).objects (S.tells store.new).objects }
 
-    // Each answer has its cause, and leaves what it says.
-    ensures cause { Cause (record { words = words.now; objects = S.objects store.old; input = I.left input.old }) result }
-    ensures leaves { Leaves (record { words = words.now; objects = S.objects store.old; input = I.left input.old }) (S.objects store.new) result }
-    ensures prints { Prints (record { words = words.now; objects = S.objects store.old; input = I.left input.old }) (O.held out.old) (O.held out.new) result }
+    // On any folder: which commands had their turn, why the next is refused, and what it leaves and prints.
+    ensures ran { Ran (record { words = words.now; objects = (S.tells store.old).objects; input = I.left input.old }) (S.tells store.new).objects (O.held out.old) (O.held out.new) result }
 
-    // An Ok does what is replied, and where no count of faults rose the answer is what is replied.
-    ensures done { Done (record { words = words.now; objects = S.objects store.old; input = I.left input.old }) (S.objects store.new) (O.held out.old) (O.held out.new) result }
-    ensures decided { Decided (record { words = words.now; objects = S.objects store.old; input = I.left input.old }) (Fails (S.faults store.old) (S.faults store.new) (I.faults input.old) (I.faults input.new) (O.faults out.old) (O.faults out.new)) result }
+    // Where the versions that are read stand: an Ok does what is replied, another end a part of it, and
+    // the answer is that of the replies, or a failure.
+    ensures done { Done (record { words = words.now; objects = (S.tells store.old).objects; input = I.left input.old }) (S.tells store.new).objects (O.held out.old) (O.held out.new) result }
+    ensures stops { Stops (record { words = words.now; objects = (S.tells store.old).objects; input = I.left input.old }) (S.tells store.new).objects (O.held out.old) (O.held out.new) result }
+    ensures decided { Decided (record { words = words.now; objects = (S.tells store.old).objects; input = I.left input.old }) result }
 
-    // Where no count rose, refusals of the input and of limits come also where the data doesn't stand.
-    ensures refused { Refused (record { words = words.now; objects = S.objects store.old; input = I.left input.old }) (Fails (S.faults store.old) (S.faults store.new) (I.faults input.old) (I.faults input.new) (O.faults out.old) (O.faults out.new)) result }
+    // At each moment the objects stand for the dataset after so many of the accepted changes.
+    ensures moments { Moments (record { words = words.now; objects = (S.tells store.old).objects; input = I.left input.old }) (S.tells store.new).objects }
 
-    // At whatever moment it stops, the objects stand for the dataset before or after the command.
-    ensures moments { Moments (record { words = words.now; objects = S.objects store.old; input = I.left input.old }) (S.objects store.new) }
+    // What the words and the input decide comes before any call of the store.
+    ensures order { Ordered (record { words = words.now; objects = (S.tells store.old).objects; input = I.left input.old }) (S.tells store.old) (S.tells store.new) result }
 
     // A command that reads input takes it to its end, and no other takes a byte.
-    ensures input { TakenBy (asked_of words.now) (I.left input.old) (I.left input.new) result }
+    ensures input { TakenBy (wants_input (asked_of words.now)) (I.left input.old) (I.left input.new) result }
 
     // A fault comes only where its count rose.
-    ensures store_cause { HasCause ((name : Name) × IsErrOf result (Fault.StoreFault name)) (S.faults store.old) (S.faults store.new) }
-    ensures store_name { (name : Name) → IsErrOf result (Fault.StoreFault name) → ForSome (S.objects store.old) (λ _. S.failed store.new ≡ Some name) }
-    ensures raced_cause { HasCause ((name : Name) × IsErrOf result (Fault.Raced name)) (S.clashes store.old) (S.clashes store.new) }
+    ensures fails { Fails (failure_of result) (S.tells store.old) (S.tells store.new) }
+    ensures raced_cause { HasCause (IsTrue (clashed result)) (S.tells store.old).clashes (S.tells store.new).clashes }
     ensures read_cause { HasCause (IsErrOf result Fault.ReadFault) (I.faults input.old) (I.faults input.new) }
     ensures write_cause { HasCause (IsErrOf result Fault.WriteFault) (O.faults out.old) (O.faults out.new) }
 {
-    serve(alloc, words, store, input, out)
+    looks_add_up();
+    let Some(asked) = asked_of(words) else {
+        return Err(Fault::Usage);
+    };
+    let text = take_text(alloc, &asked, input)?;
+    serve(alloc, &asked, 0, text, store, out)
 }
 
-// What a command reads, puts and answers; `run` says what that means.
-fn serve<S: Store, I: Source, O: Sink>(
+// Does one command, whose words stand in this line, with the lines of a text.
+fn serve<S: Store, O: Sink>(
     alloc: Global,
-    words: &Words,
+    asked: &Asked<'_>,
+    line: u64,
+    text: Vec<u8>,
     store: &mut S,
-    input: &mut I,
     out: &mut O,
 ) -> Result<(), Fault>
-    ensures served { Served (asked_of words.now) (record { before = S.objects store.old; now = S.objects store.new; given = I.left input.old; left = I.left input.new; held = O.held out.old; holds = O.held out.new }) result }
-    ensures store_cause { HasCause ((name : Name) × IsErrOf result (Fault.StoreFault name)) (S.faults store.old) (S.faults store.new) }
-    ensures store_name { (name : Name) → IsErrOf result (Fault.StoreFault name) → ForSome (S.objects store.old) (λ _. S.failed store.new ≡ Some name) }
-    ensures raced_cause { HasCause ((name : Name) × IsErrOf result (Fault.Raced name)) (S.clashes store.old) (S.clashes store.new) }
-    ensures read_cause { HasCause (IsErrOf result Fault.ReadFault) (I.faults input.old) (I.faults input.new) }
+    ensures served { Served (record { before = (S.tells store.old).objects; now = (S.tells store.new).objects; held = O.held out.old; holds = O.held out.new }) (record { asked = asked_as asked.now; line = line; lines = cond (reads_input (asked_as asked.now)) (cut 1 [] text.items) [] }) result }
+    ensures words { WordsFirst (asked_as asked.now) line (S.tells store.old) (S.tells store.new) result }
+    ensures fails { Fails (failure_of result) (S.tells store.old) (S.tells store.new) }
+    ensures raced_cause { HasCause (IsTrue (clashed result)) (S.tells store.old).clashes (S.tells store.new).clashes }
     ensures write_cause { HasCause (IsErrOf result Fault.WriteFault) (O.faults out.old) (O.faults out.new) }
 {
-    match asked_of(words) {
-        Some(Asked::Create(json)) => serve_create(alloc, json, store, out),
-        Some(Asked::Append) => serve_append(alloc, store, input, out),
-        Some(Asked::Scan) => serve_scan(alloc, store, out),
-        Some(Asked::Schema) => serve_schema(alloc, store, out),
-        None => Err(Fault::Usage),
+    puts_follow_looks();
+    match asked {
+        Asked::Create(json) => {
+            let planned = plan_create(alloc, json, line, store)?;
+            apply(alloc, planned, store, out)
+        }
+        Asked::Append => {
+            let planned = plan_append(alloc, text, store)?;
+            apply(alloc, planned, store, out)
+        }
+        Asked::Scan => serve_scan(alloc, store, out),
+        Asked::Schema => serve_schema(alloc, store, out),
     }
 }

@@ -1,35 +1,12 @@
 use crate::fault::exit_of;
 use crate::fault_text::fault_text;
-use crate::folder::FolderStore;
 use crate::run::run;
-use crate::stdio::{StdSink, StdSource};
 use lan_model::{Blob, Nums, Text, Words};
-use lan_store::{
-    BlindStore, CalmStore, Dir, MemSink, MemSource, MemStore, Name, Names, Plan, Plans, Put, Sink,
-    Source, Store,
-};
+use lan_store::{BlindStore, CalmStore, MemSink, MemSource, MemStore, Plan, Plans, Store};
 use std::alloc::{AllocError, Global};
 use std::test::Fail;
 
 const SCHEMA: &str = "[{\"name\":\"x\",\"nullable\":false,\"type\":\"int64\"}]";
-
-const MANIFEST: [u8; 47] = [
-    0x1b, 0, 0, 0, 0x0a, 0x17, 0x08, 0x02, 0x12, 0x01, 0x78, 0x20, 0xff, 0xff, 0xff, 0xff, 0xff,
-    0xff, 0xff, 0xff, 0xff, 0x01, 0x2a, 0x05, 0x69, 0x6e, 0x74, 0x36, 0x34, 0x18, 0x01, 0, 0, 0, 0,
-    0, 0, 0, 0, 0, 0, 2, 0, 0x4c, 0x41, 0x4e, 0x43,
-];
-
-const FILE: [u8; 194] = [
-    7, 0, 0, 0, 0, 0, 0, 0, 0, 0, 0, 0, 0, 0, 0, 0, 0, 0, 0, 0, 0, 0, 0, 0, 0, 0, 0, 0, 0, 0, 0, 0,
-    0, 0, 0, 0, 0, 0, 0, 0, 0, 0, 0, 0, 0, 0, 0, 0, 0, 0, 0, 0, 0, 0, 0, 0, 0, 0, 0, 0, 0, 0, 0, 0,
-    0x0a, 0x19, 0x0a, 0x17, 0x08, 0x02, 0x12, 0x01, 0x78, 0x20, 0xff, 0xff, 0xff, 0xff, 0xff, 0xff,
-    0xff, 0xff, 0xff, 0x01, 0x2a, 0x05, 0x69, 0x6e, 0x74, 0x36, 0x34, 0x10, 0x01, 0x12, 0x1b, 0x0a,
-    0x01, 0x00, 0x12, 0x01, 0x08, 0x18, 0x01, 0x22, 0x11, 0x12, 0x0f, 0x0a, 0x0d, 0x1a, 0x0b, 0x0a,
-    0x01, 0x01, 0x10, 0x01, 0x1a, 0x04, 0x0a, 0x02, 0x08, 0x40, 0x5d, 0, 0, 0, 0, 0, 0, 0, 0x1d, 0,
-    0, 0, 0, 0, 0, 0, 0x40, 0, 0, 0, 0, 0, 0, 0, 0x1d, 0, 0, 0, 0, 0, 0, 0, 0x5d, 0, 0, 0, 0, 0, 0,
-    0, 0x7a, 0, 0, 0, 0, 0, 0, 0, 0x8a, 0, 0, 0, 0, 0, 0, 0, 1, 0, 0, 0, 1, 0, 0, 0, 2, 0, 1, 0,
-    0x4c, 0x41, 0x4e, 0x43,
-];
 
 fn words_of(alloc: Global, command: &str) -> Result<Words, AllocError> {
     let mut words = Words::new(alloc);
@@ -87,44 +64,6 @@ fn planned(alloc: Global, call: u64, after: bool) -> Result<MemStore, AllocError
     let mut plans = Plans::new(alloc);
     plans.push(Plan { call, after })?;
     Ok(MemStore::new(alloc, plans))
-}
-
-#[test]
-fn commands_one_after_another(rt: HostRuntime) -> Result<(), Fail> {
-    let alloc = rt.alloc();
-    let mut store = CalmStore::new(alloc);
-    for (command, input, status, text) in [
-        ("scan", "", 5, "no dataset"),
-        ("append", "{\"x\":1}", 5, "no dataset"),
-        ("create", "", 0, "version 1\n"),
-        ("create", "", 6, "dataset is there at version 1"),
-        ("scan", "", 0, ""),
-        ("append", "{\"x\":7}\n", 0, "version 2\n"),
-        (
-            "append",
-            "{\"x\":1}\n{\"x\":\"a\"}\n",
-            3,
-            "line 2: wrong kind in \"x\"",
-        ),
-        ("append", "", 0, "version 3\n"),
-        ("append", "{\"x\":-1}\n{\"x\":8}", 0, "version 4\n"),
-        ("scan", "", 0, "{\"x\":7}\n{\"x\":-1}\n{\"x\":8}\n"),
-        (
-            "schema",
-            "",
-            0,
-            "[{\"name\":\"x\",\"nullable\":false,\"type\":\"int64\"}]\n",
-        ),
-    ] {
-        let (got, words) = told(alloc, command, input, &mut store)?;
-        assert_eq!(rt; got, status, "{command}");
-        assert_eq!(rt; words.as_str(), text, "{command}");
-    }
-    assert_eq!(rt; store.count(), 6);
-    assert_eq!(rt; store.bytes(0), MANIFEST.as_slice());
-    assert_eq!(rt; store.name(1).rest.as_str(), "00000000000000000001.lance");
-    assert_eq!(rt; store.bytes(1), FILE.as_slice());
-    Ok(())
 }
 
 // Whether a store that fails at one call, of a `create` or of the `append` behind it, answers as it
@@ -225,47 +164,5 @@ fn streams_fail(rt: HostRuntime) -> Result<(), Fail> {
     assert_eq!(rt; status, 18);
     assert_eq!(rt; words.as_str(), "input failed");
     assert_eq!(rt; store.count(), 3);
-    Ok(())
-}
-
-// Whether the put was done; the rest of the store's answer is not told.
-fn is_put<S: Store>(alloc: Global, store: &mut S, name: &Name, bytes: &[u8]) -> bool {
-    matches!(&store.put_if_absent(alloc, name, bytes), Ok(Put::Done))
-}
-
-fn listed<S: Store>(alloc: Global, store: &mut S) -> Option<u64> {
-    let mut names = Names::new(alloc);
-    store.list(alloc, Dir::Data, &mut names).ok()?;
-    Some(names.len())
-}
-
-fn part<S: Store>(alloc: Global, store: &mut S, name: &Name) -> Option<Blob> {
-    let mut part = Blob::new(alloc);
-    store.get(alloc, name, 1, 3, &mut part).ok()?;
-    Some(part)
-}
-
-#[test]
-fn a_folder_holds_what_is_put(rt: HostRuntime) -> Result<(), Fail> {
-    let alloc = rt.alloc();
-    let mut store = FolderStore::new(rt.clone()?, Text::of(alloc, "set")?);
-    let name = Name::of(alloc, Dir::Data, "a.lance")?;
-    assert_eq!(rt; listed(alloc, &mut store), Some(0));
-    assert!(rt; is_put(alloc, &mut store, &name, b"hello"));
-    assert!(rt; !is_put(alloc, &mut store, &name, b"other"));
-    assert_eq!(rt; listed(alloc, &mut store), Some(1));
-    let middle = part(alloc, &mut store, &name).ok_or("a part")?;
-    assert_eq!(rt; middle.as_slice(), b"ell".as_slice());
-    Ok(())
-}
-
-#[test]
-fn streams_pass_bytes_on(rt: HostRuntime) -> Result<(), Fail> {
-    let mut sink = StdSink::new(Vec::new(rt.alloc()));
-    assert!(rt; matches!(&sink.write(b"text"), Ok(4)));
-    let mut source = StdSource::new(b"text".as_slice());
-    let mut piece = [0u8; 3];
-    assert!(rt; matches!(&source.read(&mut piece), Ok(3)));
-    assert_eq!(rt; piece, *b"tex");
     Ok(())
 }

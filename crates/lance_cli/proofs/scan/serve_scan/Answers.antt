@@ -1,24 +1,38 @@
-use Rattle.std.proofs.Common.{ap, ◌∙◌, sym}
-use Rattle.std.specs.Prelude.{Err}
+use Rattle.std.proofs.Common.{◌∙◌, refl}
 use Rattle.std.proofs.lemmas.Result.{err_from_is_err_and}
 use Rattle.lan_manifest.specs.Manifests.{plain_manifest}
-use Rattle.lance_cli.specs.declared.fault.Fault.TheVariants.{StoreFault}
-use Rattle.lance_cli.proofs.Serving.{one_fault, unopened_scan, unprinted_scan, scan_named}
+use Rattle.lan_store.specs.Budget.{ranges}
+use Rattle.lance_cli.proofs.Failing.{read_looked, scan_looked}
+use Rattle.lance_cli.proofs.Serving.{unopened_scan, unprinted_scan, printed_scan}
 use Rattle.lance_cli.proofs.scan.serve_scan.Goals as goal
 
 pub returns-in_err-manifest-clause-served : goal.returns-in_err-manifest-clause-served
-returns-in_err-manifest-clause-served g c =
+returns-in_err-manifest-clause-served g c = λ line lines.
     let p = err_from_is_err_and c.from_residual.result c.from_residual.ensures.1 in
-    rw (p.1, p.2) (unopened_scan (g.S.Store.objects c.args.store.now) (g.S.Store.objects c.open_newest.new.store) (g.O.Sink.held c.args.out.now) c.in_err-manifest.field-0.0 c.open_newest.ensures.kept c.in_err-manifest.ensures.opens)
+    rw (p.1, p.2)
+    (unopened_scan (record { before = (g.S.Store.tells c.args.store.now).objects; now = (g.S.Store.tells c.open_newest.new.store).objects; held = g.O.Sink.held c.args.out.now; holds = g.O.Sink.held c.args.out.now }) line lines c.in_err-manifest.field-0.0 c.in_err-manifest.ensures.opens c.open_newest.ensures.looked.kept refl)
+
+pub returns-in_err-manifest-clause-fails : goal.returns-in_err-manifest-clause-fails
+returns-in_err-manifest-clause-fails g c =
+    let p = err_from_is_err_and c.from_residual.result c.from_residual.ensures.1 in
+    rw (p.1, p.2) (read_looked c.in_err-manifest.field-0.0 (ranges 1) _ _ c.in_err-manifest.ensures.looked).fails
+
+pub returns-in_err-print_table-clause-fails : goal.returns-in_err-print_table-clause-fails
+returns-in_err-print_table-clause-fails g c =
+    let p = err_from_is_err_and c.from_residual-in_err-print_table.result c.from_residual-in_err-print_table.ensures.1 in
+    rw (p.1, p.2) (scan_looked c.in_err-print_table.field-0.0 _ _ _ (c.looks_add_up.ensures.then _ _ _ _ _ _ c.in_ok-manifest.ensures.looked c.in_err-print_table.ensures.looked)).fails
+
+pub returns-clause-fails : goal.returns-clause-fails
+returns-clause-fails g c = (c.looks_add_up.ensures.then _ _ _ _ _ _ c.in_ok-manifest.ensures.looked c.in_ok-print_table.ensures.looked).fails
 
 pub returns-in_err-print_table-clause-served : goal.returns-in_err-print_table-clause-served
-returns-in_err-print_table-clause-served g c =
+returns-in_err-print_table-clause-served g c = λ line lines.
     let p = err_from_is_err_and c.from_residual-in_err-print_table.result c.from_residual-in_err-print_table.ensures.1 in
     rw (p.1, p.2)
-    (unprinted_scan (g.S.Store.objects c.args.store.now) (g.S.Store.objects c.print_table.new.store) (g.O.Sink.held c.args.out.now) (g.O.Sink.held c.print_table.new.out) (plain_manifest c.in_ok-manifest.manifest) c.in_err-print_table.field-0.0
-    (c.print_table.ensures.kept ∙ c.open_newest.ensures.kept) c.in_ok-manifest.ensures.opens (λ all told. c.in_err-print_table.ensures.scans all (c.open_newest.ensures.kept ∙ told)))
+    (unprinted_scan (record { before = (g.S.Store.tells c.args.store.now).objects; now = (g.S.Store.tells c.print_table.new.store).objects; held = g.O.Sink.held c.args.out.now; holds = g.O.Sink.held c.print_table.new.out }) line lines (plain_manifest c.in_ok-manifest.manifest) c.in_err-print_table.field-0.0
+    (c.print_table.ensures.looked.kept ∙ c.open_newest.ensures.looked.kept) c.in_ok-manifest.ensures.opens (λ all told. c.in_err-print_table.ensures.scans all (c.open_newest.ensures.looked.kept ∙ told)))
 
-pub returns-in_err-print_table-clause-store_name : goal.returns-in_err-print_table-clause-store_name
-returns-in_err-print_table-clause-store_name g c = λ name is all told.
-    let p = err_from_is_err_and c.from_residual-in_err-print_table.result c.from_residual-in_err-print_table.ensures.1 in
-    c.in_err-print_table.ensures.store_name name (ap (λ f. Err f) (scan_named c.in_err-print_table.field-0.0 name (sym p.2 ∙ one_fault c.from_residual-in_err-print_table.result p.0 (StoreFault name) p.1 is))) all (c.open_newest.ensures.kept ∙ told)
+pub returns-clause-served : goal.returns-clause-served
+returns-clause-served g c = λ line lines.
+    printed_scan (record { before = (g.S.Store.tells c.args.store.now).objects; now = (g.S.Store.tells c.print_table.new.store).objects; held = g.O.Sink.held c.args.out.now; holds = g.O.Sink.held c.print_table.new.out }) line lines (plain_manifest c.in_ok-manifest.manifest)
+    (c.print_table.ensures.looked.kept ∙ c.open_newest.ensures.looked.kept) c.in_ok-manifest.ensures.opens (λ all told. c.in_ok-print_table.ensures.scans all (c.open_newest.ensures.looked.kept ∙ told))

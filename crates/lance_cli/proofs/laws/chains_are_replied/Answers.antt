@@ -1,0 +1,5 @@
+use Rattle.lance_cli.proofs.L7.{chain_replies}
+use Rattle.lance_cli.proofs.laws.chains_are_replied.Goals as goal
+
+pub returns : goal.returns
+returns c = chain_replies

@@ -1,0 +1,87 @@
+use Rattle.std.proofs.Common.{◌∙◌, ap, refl, []}
+use Rattle.std.specs.Prelude.{Err}
+use Rattle.std.proofs.lemmas.Result.{err_from_is_err_and}
+use Rattle.lan_rows.specs.Lines.{cut}
+use Rattle.lance_cli.specs.Commands.{create, append, scan, schema}
+use Rattle.lance_cli.proofs.Failing.{no_clash, plans_unclashed, served_unclashed}
+use Rattle.lance_cli.proofs.Serving.{unplanned_served, plans_unwritten, applied_served}
+use Rattle.lance_cli.proofs.run.serve.Goals as goal
+
+pub returns-in_err-planned-in-Create-clause-served : goal.returns-in_err-planned-in-Create-clause-served
+returns-in_err-planned-in-Create-clause-served g c =
+    let p = err_from_is_err_and c.from_residual.result c.from_residual.ensures.1 in
+    rw (c.in-Create.is, p.1, p.2) (unplanned_served (record { asked = create c.in-Create.json.now; line = c.args.line; lines = [] }) (record { before = (g.S.Store.tells c.args.store.now).objects; now = (g.S.Store.tells c.plan_create.new.store).objects; held = g.O.Sink.held c.args.out.now; holds = g.O.Sink.held c.args.out.now }) c.in_err-planned-in-Create.field-0.0 refl (c.in_err-planned-in-Create.ensures.plans []) c.plan_create.ensures.looked.kept refl)
+
+pub returns-in_err-planned-in-Create-clause-write_cause : goal.returns-in_err-planned-in-Create-clause-write_cause
+returns-in_err-planned-in-Create-clause-write_cause g c =
+    let p = err_from_is_err_and c.from_residual.result c.from_residual.ensures.1 in
+    plans_unwritten (g.S.Store.tells c.args.store.now).objects (record { asked = create c.in-Create.json.now; line = c.args.line; lines = [] }) c.from_residual.result c.in_err-planned-in-Create.field-0.0 _ (p.1 ∙ ap (λ f. Err f) p.2) (c.in_err-planned-in-Create.ensures.plans [])
+
+pub returns-in_err-planned-in-Append-clause-served : goal.returns-in_err-planned-in-Append-clause-served
+returns-in_err-planned-in-Append-clause-served g c =
+    let p = err_from_is_err_and c.from_residual-in_err-planned-in-Append.result c.from_residual-in_err-planned-in-Append.ensures.1 in
+    rw (c.in-Append.is, p.1, p.2) (unplanned_served (record { asked = append; line = c.args.line; lines = cut 1 [] c.args.text.items }) (record { before = (g.S.Store.tells c.args.store.now).objects; now = (g.S.Store.tells c.plan_append.new.store).objects; held = g.O.Sink.held c.args.out.now; holds = g.O.Sink.held c.args.out.now }) c.in_err-planned-in-Append.field-0.0 refl (c.in_err-planned-in-Append.ensures.plans c.args.line) c.plan_append.ensures.looked.kept refl)
+
+pub returns-in_err-planned-in-Append-clause-write_cause : goal.returns-in_err-planned-in-Append-clause-write_cause
+returns-in_err-planned-in-Append-clause-write_cause g c =
+    let p = err_from_is_err_and c.from_residual-in_err-planned-in-Append.result c.from_residual-in_err-planned-in-Append.ensures.1 in
+    plans_unwritten (g.S.Store.tells c.args.store.now).objects (record { asked = append; line = c.args.line; lines = cut 1 [] c.args.text.items }) c.from_residual-in_err-planned-in-Append.result c.in_err-planned-in-Append.field-0.0 _ (p.1 ∙ ap (λ f. Err f) p.2) (c.in_err-planned-in-Append.ensures.plans c.args.line)
+
+pub returns-in_ok-planned-in-Create-clause-served : goal.returns-in_ok-planned-in-Create-clause-served
+returns-in_ok-planned-in-Create-clause-served g c =
+    rw c.in-Create.is
+    (applied_served (record { asked = create c.in-Create.json.now; line = c.args.line; lines = [] }) (g.S.Store.tells c.args.store.now).objects (g.S.Store.tells c.plan_create.new.store).objects (g.S.Store.tells c.apply.new.store).objects (g.O.Sink.held c.args.out.now) (g.O.Sink.held c.apply.new.out) c.in_ok-planned-in-Create.planned c.apply.result refl refl c.plan_create.ensures.looked.kept
+    (c.in_ok-planned-in-Create.ensures.plans []) c.apply.ensures.applies)
+
+pub returns-in_ok-planned-in-Append-clause-served : goal.returns-in_ok-planned-in-Append-clause-served
+returns-in_ok-planned-in-Append-clause-served g c =
+    rw c.in-Append.is
+    (applied_served (record { asked = append; line = c.args.line; lines = cut 1 [] c.args.text.items }) (g.S.Store.tells c.args.store.now).objects (g.S.Store.tells c.plan_append.new.store).objects (g.S.Store.tells c.apply-in-Append.new.store).objects (g.O.Sink.held c.args.out.now) (g.O.Sink.held c.apply-in-Append.new.out) c.in_ok-planned-in-Append.planned c.apply-in-Append.result refl refl c.plan_append.ensures.looked.kept
+    (c.in_ok-planned-in-Append.ensures.plans c.args.line) c.apply-in-Append.ensures.applies)
+
+pub returns-in-Scan-clause-served : goal.returns-in-Scan-clause-served
+returns-in-Scan-clause-served g c = rw c.in-Scan.is (c.serve_scan.ensures.served c.args.line [])
+
+pub returns-in-Schema-clause-served : goal.returns-in-Schema-clause-served
+returns-in-Schema-clause-served g c = rw c.in-Schema.is (c.serve_schema.ensures.served c.args.line [])
+
+pub returns-in_err-planned-in-Create-clause-raced_cause : goal.returns-in_err-planned-in-Create-clause-raced_cause
+returns-in_err-planned-in-Create-clause-raced_cause g c =
+    let p = err_from_is_err_and c.from_residual.result c.from_residual.ensures.1 in
+    rw (p.1, p.2) (no_clash _ _ _ (plans_unclashed (g.S.Store.tells c.args.store.now).objects (record { asked = create c.in-Create.json.now; line = c.args.line; lines = [] }) c.in_err-planned-in-Create.field-0.0 (c.in_err-planned-in-Create.ensures.plans [])) c.plan_create.ensures.looked.clashes)
+
+pub returns-in_err-planned-in-Append-clause-raced_cause : goal.returns-in_err-planned-in-Append-clause-raced_cause
+returns-in_err-planned-in-Append-clause-raced_cause g c =
+    let p = err_from_is_err_and c.from_residual-in_err-planned-in-Append.result c.from_residual-in_err-planned-in-Append.ensures.1 in
+    rw (p.1, p.2) (no_clash _ _ _ (plans_unclashed (g.S.Store.tells c.args.store.now).objects (record { asked = append; line = c.args.line; lines = cut 1 [] c.args.text.items }) c.in_err-planned-in-Append.field-0.0 (c.in_err-planned-in-Append.ensures.plans c.args.line)) c.plan_append.ensures.looked.clashes)
+
+pub returns-in-Scan-clause-raced_cause : goal.returns-in-Scan-clause-raced_cause
+returns-in-Scan-clause-raced_cause g c = no_clash _ _ _ (served_unclashed _ (record { asked = scan; line = c.args.line; lines = [] }) c.serve_scan.result refl (c.serve_scan.ensures.served c.args.line [])) c.serve_scan.ensures.clashes
+
+pub returns-in-Schema-clause-raced_cause : goal.returns-in-Schema-clause-raced_cause
+returns-in-Schema-clause-raced_cause g c = no_clash _ _ _ (served_unclashed _ (record { asked = schema; line = c.args.line; lines = [] }) c.serve_schema.result refl (c.serve_schema.ensures.served c.args.line [])) c.serve_schema.ensures.looked.clashes
+
+pub returns-in_ok-planned-in-Create-clause-raced_cause : goal.returns-in_ok-planned-in-Create-clause-raced_cause
+returns-in_ok-planned-in-Create-clause-raced_cause g c = (c.puts_follow_looks.ensures.then _ _ _ _ _ _ _ c.in_ok-planned-in-Create.ensures.looked c.apply.ensures.stored).clash
+
+pub returns-in_ok-planned-in-Append-clause-raced_cause : goal.returns-in_ok-planned-in-Append-clause-raced_cause
+returns-in_ok-planned-in-Append-clause-raced_cause g c = (c.puts_follow_looks.ensures.then _ _ _ _ _ _ _ c.in_ok-planned-in-Append.ensures.looked c.apply-in-Append.ensures.stored).clash
+
+pub returns-in_ok-planned-in-Create-clause-fails : goal.returns-in_ok-planned-in-Create-clause-fails
+returns-in_ok-planned-in-Create-clause-fails g c = (c.puts_follow_looks.ensures.then _ _ _ _ _ _ _ c.in_ok-planned-in-Create.ensures.looked c.apply.ensures.stored).fails
+
+pub returns-in_ok-planned-in-Append-clause-fails : goal.returns-in_ok-planned-in-Append-clause-fails
+returns-in_ok-planned-in-Append-clause-fails g c = (c.puts_follow_looks.ensures.then _ _ _ _ _ _ _ c.in_ok-planned-in-Append.ensures.looked c.apply-in-Append.ensures.stored).fails
+
+pub returns-in_err-planned-in-Create-clause-fails : goal.returns-in_err-planned-in-Create-clause-fails
+returns-in_err-planned-in-Create-clause-fails g c =
+    let p = err_from_is_err_and c.from_residual.result c.from_residual.ensures.1 in
+    rw (p.1, p.2) c.in_err-planned-in-Create.ensures.looked.fails
+
+pub returns-in_err-planned-in-Append-clause-fails : goal.returns-in_err-planned-in-Append-clause-fails
+returns-in_err-planned-in-Append-clause-fails g c =
+    let p = err_from_is_err_and c.from_residual-in_err-planned-in-Append.result c.from_residual-in_err-planned-in-Append.ensures.1 in
+    rw (p.1, p.2) c.in_err-planned-in-Append.ensures.looked.fails
+
+pub returns-in-Schema-clause-fails : goal.returns-in-Schema-clause-fails
+returns-in-Schema-clause-fails g c = c.serve_schema.ensures.looked.fails

@@ -1,4 +1,5 @@
--- When a file is refused for a fragment. A refusal presumes that no condition above its own stands.
+-- When a file is refused for a fragment. A refusal presumes that no condition above its own stands; of the rows, the
+-- first is named that isn't below the fragment's physical rows or stands before already, whatever follows it.
 use Rattle.std.specs.Prelude.{◌≡◌, ◌≢◌, ℕ, ◌<◌, ◌≤◌, ◌⊎◌, List, ◌∷◌, ◌++◌, length, true}
 use Rattle.lan_bytes.specs.Placed.{Placed}
 use Rattle.lan_arrow.specs.declared.fault.ArrowFault.{ArrowFault}

@@ -22,3 +22,6 @@ pub mod Runs
 pub mod ZipRows
 pub mod Chunks
 pub mod ChunkRows
+pub mod ConstantSlots
+pub mod ZipBuffers
+pub mod PagesWritten

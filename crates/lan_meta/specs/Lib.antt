@@ -1,8 +1,12 @@
+pub mod ColumnWritten
 pub mod Columns
 pub mod Faults
 pub mod LayoutMessages
+pub mod PageKeeps
 pub mod PageMessages
+pub mod PageOf
 pub mod PageRules
+pub mod PageRuns
 pub mod Stage
 pub mod ValueMessages
 pub mod Written

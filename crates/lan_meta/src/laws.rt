@@ -8,6 +8,8 @@ ghost use Rattle.lan_meta.specs.declared.message.MetaFault.{MetaFault};
 ghost use Rattle.lan_meta.specs.declared.message.MetaFault.TheVariants.{Memory};
 ghost use Rattle.lan_meta.specs.declared.page.PageMeta.{PageMeta};
 ghost use Rattle.lan_meta.specs.Columns.{ColumnOf, RefusesColumn};
+ghost use Rattle.lan_meta.specs.PageKeeps.{PagesKeepRules};
+ghost use Rattle.lan_meta.specs.PageOf.{OneListOfSlots};
 ghost use Rattle.lan_meta.specs.Written.{column_text};
 
 /// Bytes are the metadata of one column of a leaf at most.
@@ -30,4 +32,14 @@ pub fn pages_are_few()
 pub fn written_columns_are_read()
     ensures { (bytes : Placed) (leaf : PlainLeaf) (end at : ℕ) (pages : List PageMeta) → ColumnOf bytes leaf end pages → sum_by (λ (page : PageMeta). page.rows) pages < 2 ^ 64
         → length (column_text pages) < 2 ^ 64 → ColumnOf (record { base = at; bytes = column_text pages }) leaf end pages }
+{}
+
+/// The bytes of a page's buffers stand for one list of slots at most.
+pub fn one_list_of_slots()
+    ensures { OneListOfSlots }
+{}
+
+/// The pages of a column keep to the rules for its leaf.
+pub fn pages_keep_rules()
+    ensures { PagesKeepRules }
 {}

@@ -25,3 +25,5 @@ pub mod ChunkRows
 pub mod ConstantSlots
 pub mod ZipBuffers
 pub mod PagesWritten
+pub mod ChunkForm
+pub mod ChunkSlots

@@ -47,6 +47,16 @@ impl<'a> BoolView<'a> {
         })
     }
 
+    /// The same values, once more.
+    pub fn again(&self) -> BoolView<'a>
+        ensures { result ≡ self.now }
+    {
+        BoolView {
+            bytes: self.bytes,
+            count: self.count,
+        }
+    }
+
     /// The bool at a place, counted from 0.
     pub fn at(&self, i: u64) -> Piece<'a>
         requires { i < length self.now }

@@ -31,6 +31,16 @@ impl<'a> ConstView<'a> {
         ConstView { value, count: n }
     }
 
+    /// The same values, once more.
+    pub fn again(&self) -> ConstView<'a>
+        ensures { result ≡ self.now }
+    {
+        ConstView {
+            value: self.value,
+            count: self.count,
+        }
+    }
+
     /// The value at a place, counted from 0.
     pub fn at(&self, i: u64) -> Piece<'a>
         requires { i < length self.now }

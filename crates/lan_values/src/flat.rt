@@ -48,6 +48,17 @@ impl<'a> FlatView<'a> {
         })
     }
 
+    /// The same values, once more.
+    pub fn again(&self) -> FlatView<'a>
+        ensures { result ≡ self.now }
+    {
+        FlatView {
+            bytes: self.bytes,
+            width: self.width,
+            count: self.count,
+        }
+    }
+
     /// The value at a place, counted from 0.
     pub fn at(&self, i: u64) -> Piece<'a>
         requires { i < length self.now }

@@ -42,6 +42,16 @@ impl<'a> VarView<'a> {
         Ok(VarView { bytes, count: n })
     }
 
+    /// The same values, once more.
+    pub fn again(&self) -> VarView<'a>
+        ensures { result ≡ self.now }
+    {
+        VarView {
+            bytes: self.bytes,
+            count: self.count,
+        }
+    }
+
     /// The value at a place, counted from 0.
     pub fn at(&self, i: u64) -> Piece<'a>
         requires { i < length self.now }

@@ -1,0 +1,5 @@
+pub mod Form
+pub mod Cutting
+pub mod Placing
+pub mod Refusals
+pub mod Walk

@@ -9,7 +9,7 @@ use Rattle.lan_store.specs.declared.name.Name.{Name}
 use Rattle.lan_store.specs.declared.name.Object.{Object}
 use Rattle.lan_store.specs.Names.{same_dir}
 use Rattle.lan_store.specs.Objects.{object, names_in, IsListing}
-use Rattle.lan_store.proofs.Held.{held_named}
+use Rattle.lan_store.proofs.LawTerms.{folder_has}
 use Rattle.lan_fresh.specs.Fresh.{greatest_of, above, file_path, file_number, file_numbers, numbers_of, fresh_file}
 use Rattle.lan_fresh.proofs.Greatest.{above_found, above_low}
 use Rattle.lan_fresh.proofs.Paths.{number_of_path}
@@ -58,7 +58,7 @@ fresh_is_free objects small = held (object objects (record { dir = Data; rest = 
   held : (o : Option (List ℕ)) → object objects (record { dir = Data; rest = file_path (fresh_file objects) }) ≡ o → o ≡ None
   held None is = refl
   held (Some bytes) is =
-      let listed = held_named Data objects (record { dir = Data; rest = file_path (fresh_file objects) }) refl (rw is refl) in
+      let listed = (folder_has Data objects (record { dir = Data; rest = file_path (fresh_file objects) })).1 (refl, rw is refl) in
       let below = each_below (names_in Data objects) (record { dir = Data; rest = file_path (fresh_file objects) }) listed in
       let same = ap (λ ns. above (greatest_of ns) 1) (numbers_named objects) in
       let own = ap (λ o. above o 1) (number_of_path (fresh_file objects) small) in

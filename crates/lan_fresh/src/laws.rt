@@ -1,4 +1,5 @@
-//! What holds of fresh numbers, each law as the contract of a function with an empty body.
+//! What holds of fresh numbers, each law as the contract of a function with an empty body. A proof of another
+//! crate cites a law by its term in `proofs/LawTerms.antt`.
 
 ghost use Rattle.std.specs.Prelude.{◌≡◌, ℕ, ◌<◌, ◌^◌, List, Some, None};
 ghost use Rattle.lan_store.specs.declared.name.Dir.TheVariants.{Data};

@@ -2,7 +2,6 @@
 #![tactic(auto)]
 
 mod fresh;
-mod laws;
+pub mod laws;
 
 pub use fresh::{file_number, file_path, fresh_file, fresh_fragment};
-pub use laws::{fresh_names_are_free, numbers_are_read_back, paths_of_numbers_are_paths};

@@ -2,6 +2,7 @@ pub mod ColumnItems
 pub mod ColumnText
 pub mod DistinctIds
 pub mod FragmentItems
+pub mod LawTerms
 pub mod Listing
 pub mod MessageItems
 pub mod OneManifest

@@ -16,7 +16,7 @@ use Rattle.lan_store.specs.declared.name.Dir.TheVariants.{Versions}
 use Rattle.lan_store.specs.declared.name.Name.{Name}
 use Rattle.lan_store.specs.declared.name.Object.{Object}
 use Rattle.lan_store.specs.Objects.{IsListing}
-use Rattle.lan_store.proofs.Held.{held_listed, listed_held}
+use Rattle.lan_store.proofs.LawTerms.{listing_has}
 use Rattle.lan_manifest.specs.Versions.{IsVersion, manifest_name, AreListed, AreVersionsOf}
 
 pub manifest_name_injective : (v w : ℕ) → IsVersion v → IsVersion w → manifest_name v ≡ manifest_name w → v ≡ w
@@ -79,6 +79,6 @@ versions_of_set names set ordered only all = record {
 pub listed_versions : (all : List Object) (names : List Name) (versions : List ℕ) → IsListing Versions all names → AreVersionsOf names versions → AreListed all versions
 listed_versions all names versions listing of_names = record {
   rising = of_names.rising;
-  only = λ k d below. let one = of_names.only k d below in (one.0, (listed_held Versions all names _ listing one.1).1);
-  all = λ v listed. of_names.all v listed.0 (held_listed Versions all names (manifest_name v) listing refl listed.1);
+  only = λ k d below. let one = of_names.only k d below in (one.0, ((listing_has Versions all names _ listing).0 one.1).1);
+  all = λ v listed. of_names.all v listed.0 ((listing_has Versions all names (manifest_name v) listing).1 (refl, listed.1));
 }

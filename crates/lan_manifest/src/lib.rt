@@ -4,14 +4,13 @@
 mod columns;
 mod fragments;
 mod items;
-mod laws;
+pub mod laws;
 mod manifest;
 mod reading;
 mod rules;
 mod versions;
 mod writing;
 
-pub use laws::one_manifest;
 pub use manifest::{DataFile, DataFiles, Deletion, Fragment, Fragments, Manifest};
 pub use reading::{ManifestFault, read_manifest};
 pub use versions::{list_versions, name_of_version, version_of_name};

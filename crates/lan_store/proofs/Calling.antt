@@ -1,8 +1,8 @@
 -- Calls on a store, one after another.
-use Rattle.std.proofs.Common.{◌≡◌, refl, sym, ◌∙◌, ap, subst, ℕ, ◌+◌, ◌≤◌, List, arith}
-use Rattle.std.specs.Prelude.{Option, Some, None, IsSome, Bool, false}
-use Rattle.std.specs.Option.{ForSome, option_or}
-use Rattle.lan_store.specs.Budget.{Budget, plus, nothing, IsWithin, Asks, Spends}
+use Rattle.std.proofs.Common.{◌≡◌, refl, ◌∙◌, ap, List, arith}
+use Rattle.std.specs.Prelude.{Option, Some, None, Bool, false}
+use Rattle.std.specs.Option.{option_or}
+use Rattle.lan_store.specs.Budget.{Budget, plus, IsWithin, Asks, Spends}
 use Rattle.lan_store.specs.Causes.{Rose}
 use Rattle.lan_store.specs.Looked.{Fails, Looked, Stored}
 use Rattle.lan_store.specs.Telling.{Telling}

@@ -1,5 +1,5 @@
 -- Names stay distinct when an object of a fresh name comes behind the others, and in each front of them.
-use Rattle.std.proofs.Common.{◌≡◌, ◌≢◌, inl, inr, refl, sym, ◌∙◌, ap, subst, ℕ, zero, suc, ◌<◌, List, [], ◌∷◌, ◌++◌, length, get_or, take, arith, length-append, length-take, true, false}
+use Rattle.std.proofs.Common.{◌≡◌, ◌≢◌, inl, inr, sym, ◌∙◌, ap, subst, ℕ, zero, suc, List, [], ◌∷◌, ◌++◌, length, get_or, take, arith, length-append, length-take, false}
 use Rattle.std.specs.Prelude.{Result, Ok, Err, None, All, AllPairs, OnOk, OnErr}
 use Rattle.std.proofs.lemmas.Bool.{cases_Bool, cases_lt}
 use Rattle.std.proofs.lemmas.List.{get_or_append_left, get_or-take}

@@ -1,6 +1,6 @@
 -- What is held of more objects.
 use Rattle.std.proofs.Common.{◌≡◌, inl, inr, refl, ◌∙◌, ap, ℕ, List, [], ◌∷◌, ◌++◌}
-use Rattle.std.specs.Prelude.{Option, Some, None, ◌⊎◌, IsSome, Result, Ok, Err, OnOk}
+use Rattle.std.specs.Prelude.{Some, None, ◌⊎◌, IsSome, Result, Ok, Err, OnOk}
 use Rattle.std.proofs.lemmas.Bool.{cases_Bool}
 use Rattle.lan_store.specs.declared.name.Name.{Name}
 use Rattle.lan_store.specs.declared.name.Object.{Object}

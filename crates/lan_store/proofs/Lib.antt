@@ -3,4 +3,5 @@ pub mod Calling
 pub mod Distinct
 pub mod Held
 pub mod HeldMore
+pub mod LawTerms
 pub mod Told

@@ -1,5 +1,5 @@
 -- What a store that tells says of its objects.
-use Rattle.std.specs.Prelude.{◌≡◌, ◌≢◌, ℕ, List, ◌++◌, find, Option, Some, None, option_map, map, filter, AllPairs, IsPermutation, IsSortedBy}
+use Rattle.std.specs.Prelude.{◌≢◌, ℕ, List, ◌++◌, find, Option, Some, None, option_map, map, filter, AllPairs, IsPermutation, IsSortedBy}
 use Rattle.std.specs.Option.{ForSome}
 use Rattle.std.specs.Ordering.{nat_cmp, is_lt}
 use Rattle.std.specs.Cmp.Lexicographic.{slice_cmp}

@@ -1,5 +1,5 @@
 //! What holds of the objects of a store and of calls on it, each law as the contract of a function with an
-//! empty body.
+//! empty body. A proof of another crate cites a law by its term in `proofs/LawTerms.antt`.
 
 ghost use Rattle.std.specs.Prelude.{◌≡◌, ◌↔◌, ◌++◌, ◌∷◌, ◌⊎◌, [], ℕ, List, IsSome, Contains, Bool, false, Option, Some, None};
 ghost use Rattle.lan_store.specs.Budget.{Budget, plus, IsWithin, Asks, Spends};

@@ -1,6 +1,5 @@
-use Rattle.std.proofs.Common.{◌≡◌, ◌+◌, ◌<◌, drop, subst, sym, ◌∙◌, ap, ◌++◌, length, take, arith, rules, true}
+use Rattle.std.proofs.Common.{◌≡◌, ◌+◌, ◌<◌, drop, subst, ◌∙◌, ap, ◌++◌, length, take, arith, rules, true}
 use Rattle.std.specs.Prelude.{Ok, is_ok, option_map}
-use Rattle.std.specs.Result.{is_err}
 use Rattle.lan_store.specs.Streams.{Takes}
 use Rattle.lan_store.specs.declared.source.Failed.{Failed}
 use Rattle.lan_store.proofs.Told.{read_more, read_end, dropped_twice}

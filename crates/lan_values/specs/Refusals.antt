@@ -1,5 +1,5 @@
 -- Why bytes are no buffer of so many values.
-use Rattle.std.specs.Prelude.{◌≡◌, ◌≢◌, ℕ, ◌+◌, ◌-◌, ◌*◌, ◌/◌, ◌<◌, ◌≤◌, List, length}
+use Rattle.std.specs.Prelude.{◌≢◌, ℕ, ◌+◌, ◌-◌, ◌*◌, ◌/◌, ◌<◌, ◌≤◌, List, length}
 use Rattle.lan_levels.specs.Values.{Encoding, flat, bools, variable, offset, NoneFalls, BeginsWell}
 use Rattle.lan_values.specs.declared.fault.ValueFault.{ValueFault}
 use Rattle.lan_values.specs.declared.fault.ValueFault.TheVariants as fault

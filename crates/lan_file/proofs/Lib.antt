@@ -1,4 +1,6 @@
 pub mod Held
+pub mod LawTerms
+pub mod Lengths
 pub mod Looks
 pub mod Opened
 pub mod Pages

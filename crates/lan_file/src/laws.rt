@@ -1,6 +1,7 @@
-//! What holds of data files, each law as the contract of a function with an empty body.
+//! What holds of data files, each law as the contract of a function with an empty body. A proof of another
+//! crate cites a law by its term in `proofs/LawTerms.antt`.
 
-ghost use Rattle.std.specs.Prelude.{◌≡◌, ℕ, ◌^◌, ◌<◌, List, [], ◌∷◌, length, All, Some};
+ghost use Rattle.std.specs.Prelude.{◌≡◌, ℕ, ◌^◌, ◌<◌, ◌≤◌, List, [], ◌∷◌, length, All, Some};
 ghost use Rattle.lan_model.specs.Plain.{PlainField, PlainValue};
 ghost use Rattle.lan_model.specs.Table.{FitsRow};
 ghost use Rattle.lan_file.specs.declared.fault.FileReason.{FileReason};
@@ -22,4 +23,9 @@ pub fn files_hold_one_list()
 /// Where an object of at most 2^30 bytes holds as many rows as are asked, no reason stands.
 pub fn held_rows_have_no_reason()
     ensures { (fields : List (PlainField ℕ)) (bytes : List ℕ) (rows : List (List PlainValue)) (reason : FileReason) (place : ℕ) → HoldsRows fields bytes rows → IsSmall bytes → Stands fields (length rows) (Some bytes) reason place → ⊥ }
+{}
+
+/// What is written of rows has at least a byte for each.
+pub fn written_files_have_a_byte_a_row()
+    ensures { (f : PlainField ℕ) (rows : List (List PlainValue)) → IsRequiredFixed f → All (FitsRow (f ∷ [])) rows → length rows ≤ length (file_bytes (f ∷ []) rows) }
 {}

@@ -1,4 +1,5 @@
 pub mod FragmentRead
+pub mod LawTerms
 pub mod Monotone
 pub mod Newest
 pub mod NewestOpened

@@ -1,14 +1,10 @@
--- More objects change no object that is held, and no table that stands.
-use Rattle.std.proofs.Common.{◌≡◌, inl, inr, refl, ℕ, List, [], ◌∷◌, ◌++◌}
-use Rattle.std.specs.Prelude.{Option, Some, None, ◌⊎◌, IsSome}
-use Rattle.std.proofs.lemmas.Bool.{cases_Bool}
+-- More objects change no rows of fragments, and no table that stands.
+use Rattle.std.proofs.Common.{ℕ, List, [], ◌∷◌, ◌++◌}
+use Rattle.std.specs.Prelude.{Option, Some, None}
 use Rattle.lan_model.specs.Plain.{PlainField, PlainValue}
 use Rattle.lan_model.specs.Table.{Table}
-use Rattle.lan_store.specs.declared.name.Name.{Name}
 use Rattle.lan_store.specs.declared.name.Object.{Object}
-use Rattle.lan_store.specs.Names.{same_name}
-use Rattle.lan_store.specs.Objects.{object}
-use Rattle.lan_store.proofs.Held.{same_name_is, same_name_itself}
+use Rattle.lan_store.proofs.LawTerms.{held_more}
 use Rattle.lan_manifest.specs.Manifests.{PlainManifest}
 use Rattle.lan_manifest.specs.declared.manifest.Fragment.{Fragment}
 use Rattle.lan_manifest.specs.declared.manifest.DataFile.{DataFile}
@@ -16,39 +12,7 @@ use Rattle.lan_manifest.specs.declared.manifest.Deletion.{Deletion}
 use Rattle.lan_manifest.specs.Reads.{ManifestAt}
 use Rattle.lan_read.specs.Standing.{FileGives, DeletedRows, FragmentRows, RowsOf, StandsAt}
 
-pub held_more : (objects more : List Object) (name : Name) (bytes : List ℕ) → object objects name ≡ Some bytes → object (objects ++ more) name ≡ Some bytes
-unfolding object
-held_more [] more name bytes held = absurd (cc held)
-held_more (o ∷ os) more name bytes held = elim (cases_Bool (same_name o.name name)) [
-  | inl same ↦ rw same (rw same at held)
-  | inr other ↦ rw other (held_more os more name bytes (rw other at held))
-]
-
--- the last object, where none of its name was held
-pub held_last : (objects : List Object) (o : Object) → object objects o.name ≡ None → object (objects ++ o ∷ []) o.name ≡ Some o.bytes
-unfolding object
-held_last [] o none = rw (same_name_itself o.name) refl
-held_last (p ∷ os) o none = elim (cases_Bool (same_name p.name o.name)) [
-  | inl same ↦ absurd (cc (rw same at none))
-  | inr other ↦ rw other (held_last os o (rw other at none))
-]
-
--- what is held with one object more was held, or is that one
-pub held_either : (objects : List Object) (o : Object) (name : Name) → IsSome (object (objects ++ o ∷ []) name) → IsSome (object objects name) ⊎ (o.name ≡ name)
-unfolding object
-held_either [] o name held = elim (cases_Bool (same_name o.name name)) [
-  | inl same ↦ inr (same_name_is o.name name same)
-  | inr other ↦ absurd (cc (rw other at held))
-]
-held_either (p ∷ os) o name held = elim (cases_Bool (same_name p.name name)) [
-  | inl same ↦ inl (rw same refl)
-  | inr other ↦ elim (held_either os o name (rw other at held)) [
-    | inl before ↦ inl (rw other before)
-    | inr last ↦ inr last
-  ]
-]
-
-pub manifest_more : (objects more : List Object) (version : ℕ) (m : PlainManifest) → ManifestAt objects version m → ManifestAt (objects ++ more) version m
+manifest_more : (objects more : List Object) (version : ℕ) (m : PlainManifest) → ManifestAt objects version m → ManifestAt (objects ++ more) version m
 manifest_more objects more version m at = record { is_version = at.is_version; bytes = at.bytes; held = held_more objects more _ at.bytes at.held; size = at.size; reads = at.reads }
 
 file_more : (objects more : List Object) (fields : List (PlainField ℕ)) (file : DataFile) (rows : List (List PlainValue)) → FileGives objects fields file rows → FileGives (objects ++ more) fields file rows

@@ -24,9 +24,13 @@ newest_last all (v ∷ versions) newest listed is =
           ];
     })
 
+-- the same of the last itself
+pub last_is : (objects : List Object) (versions : List ℕ) → AreListed objects versions → IsNewestOf objects (slice_get versions (length versions - 1))
+last_is objects versions listed = newest_last objects versions (slice_get versions (length versions - 1)) listed refl
+
 -- the last of the listed versions is the newest one
 pub newest_is : (old : List Object) (versions : List ℕ) (version : ℕ) → AreListed old versions → IsNewest old version → slice_get versions (length versions - 1) ≡ Some version
-newest_is old versions version listed is = same (slice_get versions (length versions - 1)) (newest_last old versions (slice_get versions (length versions - 1)) listed refl) where
+newest_is old versions version listed is = same (slice_get versions (length versions - 1)) (last_is old versions listed) where
   same : (o : Option ℕ) → IsNewestOf old o → o ≡ Some version
   same None none = absurd (none version is.listed)
   same (Some other) other_is = let e : other ≡ version = omega (arith, is.newest other other_is.listed, other_is.newest version is.listed) in ap (λ n. Some n) e

@@ -1,5 +1,5 @@
 -- The objects stand for one table at a version, and where a reason stands for none.
-use Rattle.std.proofs.Common.{◌≡◌, sym, ◌∙◌, ap, subst, ℕ, zero, suc, ◌<◌, true, false, List, [], ◌∷◌, ◌++◌, length, get_or, map, arith, append_assoc}
+use Rattle.std.proofs.Common.{◌≡◌, refl, sym, ◌∙◌, ap, subst, ℕ, zero, suc, ◌<◌, true, false, List, [], ◌∷◌, ◌++◌, length, get_or, map, arith}
 use Rattle.std.specs.Prelude.{Option, Some, None, IsNone, All, Contains, pos}
 use Rattle.std.proofs.lemmas.Option.{same_Some}
 use Rattle.lan_model.specs.After.{without}
@@ -12,7 +12,7 @@ use Rattle.lan_file.specs.Files.{HoldsRows}
 use Rattle.lan_file.specs.Stage.{IsRequiredFixed}
 use Rattle.lan_file.specs.Reasons.{Stands as StandsInBytes}
 use Rattle.lan_file.specs.declared.fault.FileReason.{FileReason}
-use Rattle.lan_file.proofs.Unique.{one_list, no_reason}
+use Rattle.lan_file.proofs.LawTerms.{one_list, no_reason}
 use Rattle.lan_manifest.specs.Columns.{IsColumn}
 use Rattle.lan_manifest.specs.Manifests.{PlainManifest}
 use Rattle.lan_manifest.specs.Reads.{ManifestOf, ManifestAt}
@@ -21,7 +21,7 @@ use Rattle.lan_manifest.specs.Versions.{manifest_name}
 use Rattle.lan_manifest.specs.declared.manifest.DataFile.{DataFile}
 use Rattle.lan_manifest.specs.declared.manifest.Deletion.{Deletion}
 use Rattle.lan_manifest.specs.declared.manifest.Fragment.{Fragment}
-use Rattle.lan_manifest.proofs.OneManifest.{one_manifest, column_in}
+use Rattle.lan_manifest.proofs.LawTerms.{one_manifest}
 use Rattle.lan_read.specs.Reasons.{StandsInManifest, StandsUnread, StandsInFile, Stands}
 use Rattle.lan_read.specs.Standing.{FileGives, DeletedRows, FragmentRows, RowsOf, StandsAt}
 use Rattle.lan_read.specs.declared.fault.ManifestReason.TheVariants.{Plain}
@@ -41,7 +41,9 @@ required (field id name true ty) is = absurd is
 
 -- the one column of a manifest that is read
 pub one_column : (fields : List (PlainField ℕ)) → IsOneColumn fields → (f : PlainField ℕ) × (fields ≡ f ∷ []) × IsRequiredFixed f
-one_column fields is = let found = column_in fields is in (found.0, found.1.0, required found.0 found.1.1)
+one_column [] is = absurd is
+one_column (f ∷ []) is = (f, refl, required f is)
+one_column (f ∷ g ∷ gs) is = absurd is
 
 only_file : (P : DataFile → Type 0) (fragment : Fragment) (is : IsOneFile fragment) → All P fragment.files → P (record { path = is.path; ids = pos 0 ∷ []; columns = pos 0 ∷ [] })
 only_file P fragment is each = (subst (All P) is.one each) 0 (record { path = is.path; ids = pos 0 ∷ []; columns = pos 0 ∷ [] }) (omega arith)
@@ -64,21 +66,18 @@ fragment_one objects f fragment xs ys is one a b =
     a.left ∙ ap (λ l. without l 0 a.physical) deleted ∙ ap (λ l. without b.deleted 0 l) rows ∙ sym b.left
 
 -- fragments give one list of rows
-pub rows_one : (objects : List Object) (f : PlainField ℕ) (fs : List Fragment) (xs ys : List (List PlainValue)) → IsRequiredFixed f → All IsOneFile fs → RowsOf objects (f ∷ []) fs xs → RowsOf objects (f ∷ []) fs ys → xs ≡ ys
+rows_one : (objects : List Object) (f : PlainField ℕ) (fs : List Fragment) (xs ys : List (List PlainValue)) → IsRequiredFixed f → All IsOneFile fs → RowsOf objects (f ∷ []) fs xs → RowsOf objects (f ∷ []) fs ys → xs ≡ ys
 rows_one objects f [] xs ys is one a b = a ∙ sym b
 rows_one objects f (g ∷ gs) xs ys is one (mine, later, first, rest, a) (other_mine, other_later, other_first, other_rest, b) =
     let here = fragment_one objects f g mine other_mine is (one 0 g (omega arith)) first other_first in
     let behind = rows_one objects f gs later other_later is (others IsOneFile g gs one) rest other_rest in
     a ∙ ap (λ l. l ++ later) here ∙ ap (λ l. other_mine ++ l) behind ∙ sym b
 
--- the rows of the first fragments are the first rows
-pub rows_front : (objects : List Object) (f : PlainField ℕ) (fs gs : List Fragment) (xs ys : List (List PlainValue)) → IsRequiredFixed f → All IsOneFile fs → RowsOf objects (f ∷ []) fs xs → RowsOf objects (f ∷ []) (fs ++ gs) ys
-    → (later : List (List PlainValue)) × (ys ≡ xs ++ later)
-rows_front objects f [] gs xs ys is one a b = (ys, sym (ap (λ l. l ++ ys) a))
-rows_front objects f (g ∷ fs) gs xs ys is one (mine, later, first, rest, a) (other_mine, other_later, other_first, other_rest, b) =
-    let here = fragment_one objects f g mine other_mine is (one 0 g (omega arith)) first other_first in
-    let behind = rows_front objects f fs gs later other_later is (others IsOneFile g fs one) rest other_rest in
-    (behind.0, b ∙ ap (λ l. l ++ other_later) (sym here) ∙ ap (λ l. mine ++ l) behind.1 ∙ sym (append_assoc mine later behind.0) ∙ ap (λ l. l ++ behind.0) (sym a))
+-- the same of the fields of a manifest
+pub one_rows : (objects : List Object) (fields : List (PlainField ℕ)) (fs : List Fragment) (xs ys : List (List PlainValue)) → IsOneColumn fields → All IsOneFile fs → RowsOf objects fields fs xs → RowsOf objects fields fs ys → xs ≡ ys
+one_rows objects fields fs xs ys columns files a b =
+    let column = one_column fields columns in
+    rows_one objects column.0 fs xs ys column.2 files (subst (λ l. RowsOf objects l fs xs) column.1 a) (subst (λ l. RowsOf objects l fs ys) column.1 b)
 
 -- the objects have one manifest of a version
 pub manifest_one : (objects : List Object) (version : ℕ) (m n : PlainManifest) → ManifestAt objects version m → ManifestAt objects version n → m ≡ n
@@ -89,9 +88,8 @@ manifest_one objects version m n a b =
 pub stands_with : (objects : List Object) (version : ℕ) (t : Table) (m : PlainManifest) (rows : List (List PlainValue)) → StandsAt objects version t → ManifestAt objects version m → RowsOf objects m.fields m.fragments rows → t.rows ≡ rows
 stands_with objects version t m rows stands reads given =
     let same = manifest_one objects version stands.manifest m stands.reads reads in
-    let column = one_column m.fields reads.reads.written.columns in
     let here : RowsOf objects m.fields m.fragments t.rows = subst (λ n. RowsOf objects n.fields n.fragments t.rows) same stands.rows in
-    rows_one objects column.0 m.fragments t.rows rows column.2 reads.reads.written.files (subst (λ l. RowsOf objects l m.fragments t.rows) column.1 here) (subst (λ l. RowsOf objects l m.fragments rows) column.1 given)
+    one_rows objects m.fields m.fragments t.rows rows reads.reads.written.columns reads.reads.written.files here given
 
 fragment_of : (objects : List Object) (fields : List (PlainField ℕ)) (fs : List Fragment) (rows : List (List PlainValue)) (f : Fragment) (k : ℕ) (below : k < length fs) → RowsOf objects fields fs rows → (mine : List (List PlainValue)) × FragmentRows objects fields (get_or fs k f) mine
 fragment_of objects fields [] rows f k below is = absurd (omega (arith, below))

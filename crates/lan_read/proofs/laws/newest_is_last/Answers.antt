@@ -1,5 +1,5 @@
-use Rattle.lan_read.proofs.Newest.{newest_is, none_is}
+use Rattle.lan_read.proofs.Newest.{newest_is, none_is, last_is}
 use Rattle.lan_read.proofs.laws.newest_is_last.Goals as goal
 
 pub returns : goal.returns
-returns c = record { newest = newest_is; none = none_is }
+returns c = record { last = last_is; newest = newest_is; none = none_is }

@@ -1,0 +1,4 @@
+-- The laws' terms: what a proof of another crate cites of this one.
+pub use Rattle.lan_file.proofs.Lengths.{rows_have_bytes}
+pub use Rattle.lan_file.proofs.Unique.{one_list, no_reason}
+pub use Rattle.lan_file.proofs.Written.{written_holds}

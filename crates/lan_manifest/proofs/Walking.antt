@@ -7,7 +7,7 @@ use Rattle.lan_bytes.specs.Placed.{Placed}
 use Rattle.lan_wire.specs.declared.item.Item.{Item}
 use Rattle.lan_wire.specs.declared.item.WireFault.{WireFault}
 use Rattle.lan_wire.specs.Spells.{Items, Begins}
-use Rattle.lan_manifest.specs.declared.reading.ManifestFault.{ManifestFault}
+use Rattle.lan_manifest.specs.declared.plain.PlainFault.{PlainFault}
 use Rattle.lan_manifest.specs.Walks.{first_of}
 use Rattle.lan_wire.proofs.LawTerms.{same_read, front_not_nil}
 
@@ -44,16 +44,16 @@ first_passed number item after more f other =
     ap (first_of number) f.first ∙ ap (λ (b : Bool). cond b (Some item) (first_of number f.others)) no
 
 -- what is read is one thing only
-abbrev read_as : {A : Type 0} → A → Result A ManifestFault
+abbrev read_as : {A : Type 0} → A → Result A PlainFault
 read_as x = Ok x
 
-abbrev refused : {A : Type 0} → ManifestFault → Result A ManifestFault
+abbrev refused : {A : Type 0} → PlainFault → Result A PlainFault
 refused fault = Err fault
 
-pub read_one : {A : Type 0} (r : Result A ManifestFault) (x y : A) → r ≡ Ok x → r ≡ Ok y → x ≡ y
+pub read_one : {A : Type 0} (r : Result A PlainFault) (x y : A) → r ≡ Ok x → r ≡ Ok y → x ≡ y
 read_one r x y first second = let both : read_as x ≡ read_as y = sym first ∙ second in cc
 
-pub read_not : {A : Type 0} (r : Result A ManifestFault) (x : A) (fault : ManifestFault) → r ≡ Ok x → r ≡ Err fault → ⊥
+pub read_not : {A : Type 0} (r : Result A PlainFault) (x : A) (fault : PlainFault) → r ≡ Ok x → r ≡ Err fault → ⊥
 read_not {A} r x fault first second = let both : read_as x ≡ refused {A = A} fault = sym first ∙ second in absurd cc
 
 pub not_false : (b : Bool) → b ≡ true → b ≡ false → ⊥

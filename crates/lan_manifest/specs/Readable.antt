@@ -5,7 +5,7 @@ use Rattle.lan_wire.specs.declared.item.Item.{Item}
 use Rattle.lan_wire.specs.Readers.{placed_of}
 use Rattle.lan_manifest.specs.declared.manifest.DataFile.{DataFile}
 use Rattle.lan_manifest.specs.declared.manifest.Fragment.{Fragment}
-use Rattle.lan_manifest.specs.declared.reading.ManifestFault.{ManifestFault}
+use Rattle.lan_manifest.specs.declared.plain.PlainFault.{PlainFault}
 use Rattle.lan_manifest.specs.Manifests.{PlainManifest, fragment_text}
 use Rattle.lan_manifest.specs.Reads.{IsFile}
 use Rattle.lan_manifest.specs.Stage.{IsOneColumn, IsOneFile}
@@ -27,12 +27,12 @@ pub record IsReadable (f : Fragment) : Type 0 where
   pub rows : f.rows < 2 ^ 31
 
 -- the next step, where the first one read something
-abbrev pub and_then : {A B : Type 0} → (A → Result B ManifestFault) → Result A ManifestFault → Result B ManifestFault
+abbrev pub and_then : {A B : Type 0} → (A → Result B PlainFault) → Result A PlainFault → Result B PlainFault
 and_then f (Ok x) = f x
 and_then f (Err fault) = Err fault
 
 -- the id, the data file's message and the rows that a fragment's message gives
-abbrev pub fragment_parts : List Item → Result (ℕ × Placed × ℕ) ManifestFault
+abbrev pub fragment_parts : List Item → Result (ℕ × Placed × ℕ) PlainFault
 fragment_parts items = and_then (λ id. and_then (λ file. and_then (λ rows. Ok (id, file, rows)) (number_in (first_of 4 items))) (part_in (first_of 2 items))) (small_in (first_of 1 items))
 
 -- the items of number 2 are messages of these fragments, in this order

@@ -13,20 +13,20 @@ ghost use Rattle.lan_manifest.specs.Stage.{IsOneColumn};
 ghost use Rattle.lan_manifest.specs.Walks.{first_of, part_in, GivesBack};
 
 use crate::items::part_in;
-use crate::reading::ManifestFault;
+use crate::plain::PlainFault;
 use lan_bytes::View;
 use lan_model::{Field, FieldList, Text, Ty};
 use lan_schema::{leaf_type, read_entry};
 use std::alloc::{AllocError, Global};
 
 // A column's name.
-fn name_of(alloc: Global, name: &str) -> Result<Text, ManifestFault>
+fn name_of(alloc: Global, name: &str) -> Result<Text, PlainFault>
     ensures rules { IfOk result (λ text. (0 < length text) × IsTrue (is_utf8 text)) }
     ensures again { 0 < length name.now → GivesBack (λ text. text) result name.now }
 {
     let text = Text::of(alloc, name)?;
     if text.as_str().is_empty() {
-        return Err(ManifestFault::Plain);
+        return Err(PlainFault::Plain);
     }
     Ok(text)
 }
@@ -39,15 +39,15 @@ fn is_fixed(ty: &Ty) -> bool
 }
 
 // A column's type, of which each value has as many bits.
-fn type_of(logical: &str) -> Result<Ty, ManifestFault>
+fn type_of(logical: &str) -> Result<Ty, PlainFault>
     ensures rules { IfOk result (λ ty. IsFixedType (plain_type ty)) }
     ensures again { (ty : PlainType ℕ) → IsFixedType ty → logical.now ≡ logical_of ty → GivesBack plain_type result ty }
 {
     let Some(ty) = leaf_type(logical) else {
-        return Err(ManifestFault::Plain);
+        return Err(PlainFault::Plain);
     };
     if !is_fixed(&ty) {
-        return Err(ManifestFault::Plain);
+        return Err(PlainFault::Plain);
     }
     Ok(ty)
 }
@@ -64,7 +64,7 @@ fn column_of(name: Text, ty: Ty) -> Field
 }
 
 // The column that the message of a field says.
-fn read_column(alloc: Global, message: &View<'_>) -> Result<Field, ManifestFault>
+fn read_column(alloc: Global, message: &View<'_>) -> Result<Field, PlainFault>
     ensures rules { IfOk result (λ f. IsColumn (plain_field f)) }
     ensures again { (f : PlainField ℕ) → IsColumn f → SaysField message.now (column_flat f) → GivesBack plain_field result f }
 {
@@ -83,7 +83,7 @@ fn one_column(alloc: Global, column: Field) -> Result<FieldList, AllocError>
 }
 
 /// The fields in the message of a manifest, which are one column.
-pub(crate) fn read_columns(alloc: Global, message: &View<'_>) -> Result<FieldList, ManifestFault>
+pub(crate) fn read_columns(alloc: Global, message: &View<'_>) -> Result<FieldList, PlainFault>
     ensures rules { IfOk result (λ fields. IsOneColumn (map plain_field fields)) }
     ensures again { (items : List Item) (part : Placed) (f : PlainField ℕ) → Items message.now.base message.now.bytes items → part_in (first_of 1 items) ≡ Ok part → IsColumn f → SaysField part (column_flat f) → GivesBack (map plain_field) result (f ∷ []) }
 {

@@ -10,7 +10,7 @@ ghost use Rattle.lan_manifest.specs.Walks.{IsMemory, GivesBack};
 
 use crate::items::{number_in, part_in, small_in, text_in};
 use crate::manifest::{DataFile, DataFiles, Fragment, Fragments};
-use crate::reading::ManifestFault;
+use crate::plain::PlainFault;
 use crate::rules::is_path;
 use lan_bytes::View;
 use lan_model::{List, Text};
@@ -18,19 +18,19 @@ use lan_wire::{Fields, Item};
 use std::alloc::{AllocError, Global};
 
 // The path in a data file's message.
-fn read_path<'a>(file: &View<'a>) -> Result<&'a str, ManifestFault>
+fn read_path<'a>(file: &View<'a>) -> Result<&'a str, PlainFault>
     ensures rules { IfOk result (λ path. IsPath path.now) }
     ensures again { (path : List ℕ) → IsPath path → file.now.bytes ≡ file_text (one_file path) → GivesBack (λ p. p.now) result path }
 {
     let path = text_in(file, 1)?;
     if !is_path(path.as_bytes()) {
-        return Err(ManifestFault::Plain);
+        return Err(PlainFault::Plain);
     }
     Ok(path)
 }
 
 // The id, the data file's message and the rows in a fragment's message.
-fn fragment_parts<'a>(message: &View<'a>) -> Result<(u32, View<'a>, u64), ManifestFault>
+fn fragment_parts<'a>(message: &View<'a>) -> Result<(u32, View<'a>, u64), PlainFault>
     ensures { (items : List Item) → Items message.now.base message.now.bytes items → result ≡ fragment_parts items }
 {
     let id = small_in(message, 1)?;
@@ -51,13 +51,13 @@ fn one_file(alloc: Global, path: &str) -> Result<DataFiles, AllocError>
 }
 
 /// The fragment that a fragment's message spells.
-pub(crate) fn read_fragment(alloc: Global, message: &View<'_>) -> Result<Fragment, ManifestFault>
+pub(crate) fn read_fragment(alloc: Global, message: &View<'_>) -> Result<Fragment, PlainFault>
     ensures rules { IfOk result IsReadable }
     ensures again { (f : Fragment) → IsReadable f → message.now.bytes ≡ fragment_text f → GivesBack (λ g. g) result f }
 {
     let (id, file, rows) = fragment_parts(message)?;
     if rows >= 1 << 31 {
-        return Err(ManifestFault::Plain);
+        return Err(PlainFault::Plain);
     }
     let path = read_path(&file)?;
     let files = one_file(alloc, path)?;
@@ -74,7 +74,7 @@ fn push_fragment(
     alloc: Global,
     item: &Item<'_>,
     fragments: &mut Fragments,
-) -> Result<(), ManifestFault>
+) -> Result<(), PlainFault>
     ensures rules { OnOk result (All IsReadable fragments.old → All IsReadable fragments.new) }
     ensures again { (items : List Item) (left : List Fragment) → SpellFragments (item.now ∷ items) left → MatchResult result (λ _. (rest : List Fragment) × SpellFragments items rest × (fragments.old ++ left ≡ fragments.new ++ rest)) IsMemory }
 {
@@ -87,7 +87,7 @@ fn push_fragment(
 }
 
 /// The fragments in the message of a manifest.
-pub(crate) fn read_fragments(alloc: Global, message: &View<'_>) -> Result<Fragments, ManifestFault>
+pub(crate) fn read_fragments(alloc: Global, message: &View<'_>) -> Result<Fragments, PlainFault>
     ensures rules { IfOk result (All IsReadable) }
     ensures again { (items : List Item) (fragments : List Fragment) → Items message.now.base message.now.bytes items → SpellFragments items fragments → GivesBack (λ fs. fs) result fragments }
 {

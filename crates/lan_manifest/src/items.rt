@@ -5,7 +5,7 @@ ghost use Rattle.lan_wire.specs.declared.item.Item.{Item};
 ghost use Rattle.lan_wire.specs.Spells.{Items};
 ghost use Rattle.lan_manifest.specs.Walks.{first_of, number_in, small_in, maybe_small_in, part_in, text_in, Gives};
 
-use crate::reading::ManifestFault;
+use crate::plain::PlainFault;
 use lan_bytes::View;
 use lan_wire::{Fields, Item};
 
@@ -25,7 +25,7 @@ fn item_of<'a>(message: &View<'a>, number: u32) -> Option<Item<'a>>
 }
 
 /// The number under a field's number, 0 where it is left out.
-pub(crate) fn number_in(message: &View<'_>, number: u32) -> Result<u64, ManifestFault>
+pub(crate) fn number_in(message: &View<'_>, number: u32) -> Result<u64, PlainFault>
     ensures { (items : List Item) → Items message.now.base message.now.bytes items → result ≡ number_in (first_of number items) }
 {
     match item_of(message, number) {
@@ -35,7 +35,7 @@ pub(crate) fn number_in(message: &View<'_>, number: u32) -> Result<u64, Manifest
 }
 
 /// The number of 32 bits under a field's number, 0 where it is left out.
-pub(crate) fn small_in(message: &View<'_>, number: u32) -> Result<u32, ManifestFault>
+pub(crate) fn small_in(message: &View<'_>, number: u32) -> Result<u32, PlainFault>
     ensures { (items : List Item) → Items message.now.base message.now.bytes items → result ≡ small_in (first_of number items) }
 {
     match item_of(message, number) {
@@ -45,7 +45,7 @@ pub(crate) fn small_in(message: &View<'_>, number: u32) -> Result<u32, ManifestF
 }
 
 /// The number of 32 bits under a field's number, None where it is left out.
-pub(crate) fn maybe_small_in(message: &View<'_>, number: u32) -> Result<Option<u32>, ManifestFault>
+pub(crate) fn maybe_small_in(message: &View<'_>, number: u32) -> Result<Option<u32>, PlainFault>
     ensures fits { IfOk result (λ found. IfSome found (λ n. n < 2 ^ 32)) }
     ensures read { (items : List Item) → Items message.now.base message.now.bytes items → result ≡ maybe_small_in (first_of number items) }
 {
@@ -56,21 +56,21 @@ pub(crate) fn maybe_small_in(message: &View<'_>, number: u32) -> Result<Option<u
 }
 
 /// The message under a field's number.
-pub(crate) fn part_in<'a>(message: &View<'a>, number: u32) -> Result<View<'a>, ManifestFault>
+pub(crate) fn part_in<'a>(message: &View<'a>, number: u32) -> Result<View<'a>, PlainFault>
     ensures { (items : List Item) → Items message.now.base message.now.bytes items → result ≡ part_in (first_of number items) }
 {
     match item_of(message, number) {
         Some(item) => Ok(item.part()?),
-        None => Err(ManifestFault::Plain),
+        None => Err(PlainFault::Plain),
     }
 }
 
 /// The text under a field's number.
-pub(crate) fn text_in<'a>(message: &View<'a>, number: u32) -> Result<&'a str, ManifestFault>
+pub(crate) fn text_in<'a>(message: &View<'a>, number: u32) -> Result<&'a str, PlainFault>
     ensures { (items : List Item) → Items message.now.base message.now.bytes items → Gives (λ text. text.now) result (text_in (first_of number items)) }
 {
     match item_of(message, number) {
         Some(item) => Ok(item.text()?),
-        None => Err(ManifestFault::Plain),
+        None => Err(PlainFault::Plain),
     }
 }

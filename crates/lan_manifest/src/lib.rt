@@ -6,12 +6,12 @@ mod fragments;
 mod items;
 pub mod laws;
 mod manifest;
-mod reading;
+mod plain;
 mod rules;
 mod versions;
 mod writing;
 
 pub use manifest::{DataFile, DataFiles, Deletion, Fragment, Fragments, Manifest};
-pub use reading::{ManifestFault, read_manifest};
+pub use plain::{PlainFault, read_plain};
 pub use versions::{list_versions, name_of_version, version_of_name};
 pub use writing::write_manifest;

@@ -12,7 +12,7 @@ ghost use Rattle.lan_read.specs.Failures.{read_failure};
 use crate::fault::{ManifestReason, ReadFault, Reason};
 use crate::object::{ObjectFault, read_object};
 use lan_bytes::View;
-use lan_manifest::{Manifest, ManifestFault, list_versions, name_of_version, read_manifest};
+use lan_manifest::{Manifest, PlainFault, list_versions, name_of_version, read_plain};
 use lan_model::{Blob, Text};
 use lan_store::laws::looks_add_up;
 use lan_store::{Dir, ListFault, Name, Store};
@@ -71,13 +71,13 @@ fn manifest_in(alloc: Global, bytes: Blob, version: u64, name: Name) -> Result<M
     ensures manifest { ManifestIn bytes version name result }
     ensures opened { IfOk result (λ m. IsOpened (plain_manifest m)) }
 {
-    match read_manifest(alloc, View::new(0, bytes.as_slice()), version) {
+    match read_plain(alloc, View::new(0, bytes.as_slice()), version) {
         Ok(manifest) => Ok(manifest),
-        Err(ManifestFault::Plain) => Err(ReadFault::Outside(
+        Err(PlainFault::Plain) => Err(ReadFault::Outside(
             name,
             Reason::Manifest(ManifestReason::Plain),
             0,
         )),
-        Err(ManifestFault::Memory) => Err(ReadFault::Memory),
+        Err(PlainFault::Memory) => Err(ReadFault::Memory),
     }
 }

@@ -4,7 +4,7 @@ use Rattle.lan_wire.specs.Spells.{Items}
 use Rattle.lan_manifest.specs.Walks.{first_of, maybe_small_in}
 use Rattle.lan_manifest.proofs.MessageItems.{message_gives}
 use Rattle.lan_manifest.proofs.Walking.{read_one, read_not}
-use Rattle.lan_manifest.proofs.reading.read_message.Goals as goal
+use Rattle.lan_manifest.proofs.plain.read_message.Goals as goal
 
 pub returns-in_err-fields-clause-again : goal.returns-in_err-fields-clause-again
 returns-in_err-fields-clause-again c = λ m numbered rules column files short spelled.

@@ -2,7 +2,7 @@ use Rattle.std.proofs.Common.{◌≢◌, ◌≤◌, List, length, sym, subst, �
 use Rattle.std.specs.Prelude.{AllPairs}
 use Rattle.lan_manifest.specs.declared.manifest.Fragment.{Fragment}
 use Rattle.lan_manifest.proofs.ReadManifests.{manifest_of, same_bytes}
-use Rattle.lan_manifest.proofs.reading.read_manifest.Goals as goal
+use Rattle.lan_manifest.proofs.plain.read_plain.Goals as goal
 
 pub returns-clause-ok : goal.returns-clause-ok
 returns-clause-ok c =

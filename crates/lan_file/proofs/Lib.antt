@@ -1,3 +1,9 @@
+pub mod Entries
+pub mod FileBack
+pub mod FileLaid
+pub mod FilePut
+pub mod HeadHeld
+pub mod HeadLaws
 pub mod Held
 pub mod LawTerms
 pub mod Lengths
@@ -5,10 +11,12 @@ pub mod Looks
 pub mod Opened
 pub mod Pages
 pub mod PartLemmas
+pub mod Picked
 pub mod Plainly
 pub mod Rows
 pub mod Slots
 pub mod Stated
+pub mod TablesRead
 pub mod Unique
 pub mod Values
 pub mod Written

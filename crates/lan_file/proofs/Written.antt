@@ -16,45 +16,16 @@ use Rattle.lan_file.specs.Parts.{part, tail_of, footer_in, footer_of, extent_in,
 use Rattle.lan_file.specs.Files.{HoldsRows}
 use Rattle.lan_file.specs.Widths.{column_size}
 use Rattle.lan_file.proofs.PartLemmas.{part-past, part-front, part-here}
+use Rattle.lan_file.proofs.Entries.{written_footer, footer_read, entry_read, length-footer_text, length-entry_text, mark_written}
 use Rattle.lan_file.proofs.Pages.{type_of, length-page_bytes, few_rows, fit_rows, page_stands}
 use Rattle.lan_file.proofs.Slots.{stand_for}
-
-abbrev written_footer : ℕ → ℕ → Footer
-written_footer columns_at table = record { columns_at = columns_at; column_table = table; globals_table = table + 16; globals = 1; columns = 1; major = 2; minor = 1 }
-
-footer_read : (columns_at table : ℕ) → columns_at < 2 ^ 64 → table + 16 < 2 ^ 64 → footer_in (footer_text columns_at table) ≡ written_footer columns_at table
-unfolding footer_in u64_bytes u32_bytes u16_bytes
-footer_read columns_at table first second =
-    let a = from_le_bytes-to_le_bytes_8 columns_at first in
-    let b = from_le_bytes-to_le_bytes_8 table (omega (arith, second)) in
-    let c = from_le_bytes-to_le_bytes_8 (table + 16) second in
-    λ i. record { columns_at = a i; column_table = b i; globals_table = c i; globals = 1; columns = 1; major = 2; minor = 1 }
-
-entry_read : (at size : ℕ) → at < 2 ^ 64 → size < 2 ^ 64 → extent_in (entry_text at size) ≡ record { at = at; size = size }
-unfolding extent_in u64_bytes
-entry_read at size first second =
-    let a = from_le_bytes-to_le_bytes_8 at first in
-    let b = from_le_bytes-to_le_bytes_8 size second in
-    λ i. record { at = a i; size = b i }
-
-length-footer_text : (columns_at table : ℕ) → length (footer_text columns_at table) ≡ 40
-unfolding u64_bytes u32_bytes u16_bytes
-length-footer_text columns_at table = refl
-
-length-entry_text : (at size : ℕ) → length (entry_text at size) ≡ 16
-unfolding u64_bytes
-length-entry_text at size = refl
-
-mark_written : (columns_at table : ℕ) → drop 36 (footer_text columns_at table) ≡ codes "LANC"
-unfolding u64_bytes u32_bytes u16_bytes
-mark_written columns_at table = refl
 
 -- the parts of a file that is put together of these
 record Laid (file page column descriptor : List ℕ) : Type 0 where
   columns_at : ℕ
   descriptor_at : ℕ
   long : length file ≡ columns_at + length column + 72
-  tail : tail_of file ≡ footer_text columns_at (columns_at + length column)
+  tail : tail_of file ≡ footer_text columns_at (columns_at + length column) 1
   column_entry : part file (columns_at + length column) 16 ≡ entry_text columns_at (length column)
   descriptor_entry : part file (columns_at + length column + 16) 16 ≡ entry_text descriptor_at (length descriptor)
   column_part : part file columns_at (length column) ≡ column
@@ -71,11 +42,11 @@ laid page column descriptor =
     let at = length front in
     let e1 = entry_text at (length column) in
     let e2 = entry_text (length before) (length descriptor) in
-    let foot = footer_text at (at + length column) in
+    let foot = footer_text at (at + length column) 1 in
     let behind : List ℕ = column ++ (e1 ++ (e2 ++ foot)) in
     let size_1 : length e1 ≡ 16 = length-entry_text at (length column) in
     let size_2 : length e2 ≡ 16 = length-entry_text (length before) (length descriptor) in
-    let size_3 : length foot ≡ 40 = length-footer_text at (at + length column) in
+    let size_3 : length foot ≡ 40 = length-footer_text at (at + length column) 1 in
     let size_4 : length (e2 ++ foot) ≡ 56 = length-append e2 foot ∙ omega (arith, size_2, size_3) in
     let size_5 : length (e1 ++ (e2 ++ foot)) ≡ 72 = length-append e1 (e2 ++ foot) ∙ omega (arith, size_1, size_4) in
     let size_6 : length behind ≡ length column + 72 = length-append column (e1 ++ (e2 ++ foot)) ∙ omega (arith, size_5) in
@@ -114,8 +85,8 @@ written_holds f rows is some fit small =
     let room : column_size fields * length rows < 2 ^ 64 = omega (arith, size, l.page_before, l.descriptor_before, l.long, small) in
     let P : List ℕ → Type 0 = λ bytes. StandAll (type_of f) bytes rows [] in
     let table = l.columns_at + length column in
-    let here : footer_of file ≡ written_footer l.columns_at table =
-    ap footer_in l.tail ∙ footer_read l.columns_at table (omega (arith, l.long, small)) (omega (arith, l.long, small)) in
+    let here : footer_of file ≡ written_footer l.columns_at table 1 =
+    ap footer_in l.tail ∙ footer_read l.columns_at table 1 (omega (arith, l.long, small)) (omega (arith, l.long, small)) (omega arith) in
     let table_at : (footer_of file).column_table ≡ table = ap (λ (g : Footer). g.column_table) here in
     let globals_at : (footer_of file).globals_table ≡ table + 16 = ap (λ (g : Footer). g.globals_table) here in
     let column_is : column_of file ≡ record { at = l.columns_at; size = length column } =
@@ -132,7 +103,7 @@ written_holds f rows is some fit small =
     record {
       file = record {
         long = omega (arith, l.long);
-        mark = ap (drop 36) l.tail ∙ mark_written l.columns_at table;
+        mark = ap (drop 36) l.tail ∙ mark_written l.columns_at table 1;
         major = ap (λ (g : Footer). g.major) here;
         minor = ap (λ (g : Footer). g.minor) here;
       };

@@ -1,5 +1,11 @@
 pub mod Asking
+pub mod Descriptor
+pub mod FileOf
+pub mod FileText
 pub mod Files
+pub mod HeadReasons
+pub mod HeadSteps
+pub mod Heads
 pub mod Layouts
 pub mod Numbers
 pub mod Opening
@@ -8,6 +14,7 @@ pub mod Parts
 pub mod Reasons
 pub mod Stage
 pub mod Stating
+pub mod Tables
 pub mod Texts
 pub mod Widths
 pub mod Writing

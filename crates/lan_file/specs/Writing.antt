@@ -1,5 +1,5 @@
 -- The file that the writer makes of rows.
-use Rattle.std.specs.Prelude.{ℕ, ◌+◌, ◌-◌, ◌%◌, List, ◌++◌, length, replicate, codes}
+use Rattle.std.specs.Prelude.{ℕ, ◌+◌, ◌*◌, ◌-◌, ◌%◌, List, ◌++◌, length, replicate, codes}
 use Rattle.lan_model.specs.Plain.{PlainField, PlainValue}
 use Rattle.lan_file.specs.Numbers.{u16_bytes, u32_bytes, u64_bytes}
 use Rattle.lan_file.specs.Texts.{page_bytes, column_text, descriptor_text}
@@ -12,15 +12,16 @@ aligned bytes = bytes ++ replicate ((64 - length bytes % 64) % 64) 0
 abbrev pub entry_text : ℕ → ℕ → List ℕ
 entry_text at size = u64_bytes at ++ u64_bytes size
 
--- the footer of a file of one column and one global buffer, whose tables have no gap behind them
-abbrev pub footer_text : ℕ → ℕ → List ℕ
-footer_text columns_at table = u64_bytes columns_at ++ (u64_bytes table ++ (u64_bytes (table + 16) ++ (u32_bytes 1 ++ (u32_bytes 1 ++ (u16_bytes 2 ++ (u16_bytes 1 ++ codes "LANC"))))))
+-- the footer of a file of so many columns and one global buffer, whose tables have no gap behind them
+abbrev pub footer_text : ℕ → ℕ → ℕ → List ℕ
+footer_text columns_at table columns =
+    u64_bytes columns_at ++ (u64_bytes table ++ (u64_bytes (table + 16 * columns) ++ (u32_bytes 1 ++ (u32_bytes columns ++ (u16_bytes 2 ++ (u16_bytes 1 ++ codes "LANC"))))))
 
 -- a file of one page: the page, the descriptor at the next multiple of 64, and all that follows without a gap
 abbrev pub file_from : List ℕ → List ℕ → List ℕ → List ℕ
 file_from page column descriptor =
     let front = aligned page ++ descriptor in
-    front ++ (column ++ (entry_text (length front) (length column) ++ (entry_text (length (aligned page)) (length descriptor) ++ footer_text (length front) (length front + length column))))
+    front ++ (column ++ (entry_text (length front) (length column) ++ (entry_text (length (aligned page)) (length descriptor) ++ footer_text (length front) (length front + length column) 1)))
 
 -- the file of these rows of these fields
 unfoldable pub file_bytes : List (PlainField ℕ) → List (List PlainValue) → List ℕ

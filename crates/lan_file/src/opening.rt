@@ -35,7 +35,7 @@ pub struct Head {
     pub metadata: Blob,
 }
 
-fn are_in_order(size: u64, footer: &Footer) -> bool
+pub(crate) fn are_in_order(size: u64, footer: &Footer) -> bool
     requires { 40 ≤ size }
     ensures { IsTrue result ↔ InOrder size footer.now }
 {
@@ -59,7 +59,7 @@ fn lie_within(footer: &Footer, column: Extent, descriptor: Extent) -> bool
             || (descriptor.at <= first && descriptor.size <= first - descriptor.at))
 }
 
-fn has_mark(tail: &[u8]) -> bool
+pub(crate) fn has_mark(tail: &[u8]) -> bool
     requires { length tail.now ≡ 40 }
     ensures { IsTrue result ↔ (drop 36 tail.now ≡ codes "LANC") }
 {

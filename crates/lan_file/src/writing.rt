@@ -1,4 +1,4 @@
-ghost use Rattle.std.specs.Prelude.{◌≡◌, ◌+◌, ◌^◌, ◌<◌, ◌++◌, [], ◌∷◌, flat_map, length, map, All, OnOk, IfOk};
+ghost use Rattle.std.specs.Prelude.{◌≡◌, ◌+◌, ◌*◌, ◌^◌, ◌<◌, ◌++◌, [], ◌∷◌, flat_map, length, map, All, OnOk, IfOk};
 ghost use Rattle.lan_levels.specs.Taken.{FitsItem};
 ghost use Rattle.lan_model.specs.Plain.{plain_type, plain_field, plain_value};
 ghost use Rattle.lan_model.specs.PlainTable.{row_of};
@@ -80,25 +80,30 @@ fn put_page(field: &Field, rows: &[Row], out: &mut Out) -> Result<(), AllocError
     put_rows(&field.ty, rows, out)
 }
 
-// Where a part lies, and how long it is.
+/// Where a part lies, and how long it is.
 #[tactic(auto, using(std::proofs::Common::append_assoc))]
-fn put_entry(at: u64, size: u64, out: &mut Out) -> Result<(), AllocError>
+pub(crate) fn put_entry(at: u64, size: u64, out: &mut Out) -> Result<(), AllocError>
     ensures { OnOk result (out.new ≡ out.old ++ entry_text at size) }
 {
     put_u64(at, out)?;
     put_u64(size, out)
 }
 
-// The footer of a file of one column, one global buffer and version 2.1.
-fn put_footer(columns_at: u64, table: u64, out: &mut Out) -> Result<(), AllocError>
-    requires { table + 16 < 2 ^ 64 }
-    ensures { OnOk result (out.new ≡ out.old ++ footer_text columns_at table) }
+/// The footer of a file of so many columns, one global buffer and version 2.1.
+pub(crate) fn put_footer(
+    columns_at: u64,
+    table: u64,
+    columns: u32,
+    out: &mut Out,
+) -> Result<(), AllocError>
+    requires { table + 16 * columns < 2 ^ 64 }
+    ensures { OnOk result (out.new ≡ out.old ++ footer_text columns_at table columns) }
 {
     put_u64(columns_at, out)?;
     put_u64(table, out)?;
-    put_u64(table + 16, out)?;
+    put_u64(table + 16 * u64::from(columns), out)?;
     put_u32(1, out)?;
-    put_u32(1, out)?;
+    put_u32(columns, out)?;
     put_u16(2, out)?;
     put_u16(1, out)?;
     out.bytes(b"LANC")?;
@@ -127,6 +132,6 @@ pub fn plain_file(alloc: Global, field: &Field, rows: &Rows) -> Result<Vec<u8>, 
     let table = out.len();
     put_entry(columns_at, column.len() as u64, &mut out)?;
     put_entry(descriptor_at, descriptor.len() as u64, &mut out)?;
-    put_footer(columns_at, table, &mut out)?;
+    put_footer(columns_at, table, 1, &mut out)?;
     Ok(out.finish())
 }

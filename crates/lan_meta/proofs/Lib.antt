@@ -1,4 +1,5 @@
 pub mod FewPages
+pub mod KeptBack
 pub mod LawTerms
 pub mod OneColumn
 pub mod PageKept

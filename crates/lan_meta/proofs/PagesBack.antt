@@ -72,7 +72,7 @@ other_code : (code : ℕ) → (code ≡ 1) ⊎ (code ≡ 3) → is_list code ≡
 other_code code (inl e) = ap is_list e
 other_code code (inr e) = ap is_list e
 
-lists_same : (codes : List ℕ) (layers : List Layer) → FitCodes codes layers → count_by is_list codes ≡ lists_in layers
+pub lists_same : (codes : List ℕ) (layers : List Layer) → FitCodes codes layers → count_by is_list codes ≡ lists_in layers
 lists_same [] [] h = refl
 lists_same [] (l ∷ ls) h = absurd h
 lists_same (c ∷ cs) [] h = absurd h
@@ -103,7 +103,7 @@ len_same (x ∷ xs) [] e = absurd (omega (arith, e))
 len_same (x ∷ xs) (y ∷ ys) e = ap (λ (zs : List ℕ). y ∷ zs) (len_same xs ys (omega (arith, e)))
 
 -- a page as its message says it
-abbrev said_page : PageMeta → SaidPage
+abbrev pub said_page : PageMeta → SaidPage
 said_page page = record { rows = page.rows; offsets = map (λ (b : Range). b.at) page.buffers; sizes = map (λ (b : Range). b.len) page.buffers; layout = said_layout page.layout }
 
 record PageFits (page : SaidPage) : Type 0 where
@@ -128,7 +128,7 @@ whole_same leaf end whole fits obeys =
     let layout = layout_same whole.layout.layout whole.layout.bits_rep whole.layout.bits_def leaf.layers fits.layout obeys.layers obeys.bits in
     λ i. record { rows = whole.rows; offsets = offsets i; sizes = sizes i; layout = layout i }
 
-page_back : (at before : ℕ) (page : PageMeta) → before < 2 ^ 64 → page.rows < 2 ^ 64 → Words (map (λ (b : Range). b.at) page.buffers) → Words (map (λ (b : Range). b.len) page.buffers) → LayoutFits page.layout
+pub page_back : (at before : ℕ) (page : PageMeta) → before < 2 ^ 64 → page.rows < 2 ^ 64 → Words (map (λ (b : Range). b.at) page.buffers) → Words (map (λ (b : Range). b.len) page.buffers) → LayoutFits page.layout
     → length (spelling_of (page_written before page)) < 2 ^ 64 → SaysPage (record { base = at; bytes = spelling_of (page_written before page) }) (said_page page)
 page_back at before page prior rows offsets sizes layout small =
     let fields = page_written before page in

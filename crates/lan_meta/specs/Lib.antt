@@ -7,6 +7,7 @@ pub mod PageMessages
 pub mod PageOf
 pub mod PageRules
 pub mod PageRuns
+pub mod PagesTold
 pub mod Stage
 pub mod ValueMessages
 pub mod Written

@@ -1,15 +1,17 @@
 //! What holds of columns' metadata, each law as the contract of a function with an empty body. A proof of
 //! another crate cites a law by its term in `proofs/LawTerms.antt`.
 
-ghost use Rattle.std.specs.Prelude.{◌≡◌, ℕ, ◌*◌, ◌^◌, ◌<◌, ◌≤◌, List, length, sum_by};
+ghost use Rattle.std.specs.Prelude.{◌≡◌, ℕ, ◌*◌, ◌^◌, ◌<◌, ◌≤◌, List, length, sum_by, All};
 ghost use Rattle.lan_bytes.specs.Placed.{Placed};
 ghost use Rattle.lan_model.specs.Leaves.{PlainLeaf};
 ghost use Rattle.lan_meta.specs.declared.message.MetaFault.{MetaFault};
 ghost use Rattle.lan_meta.specs.declared.message.MetaFault.TheVariants.{Memory};
 ghost use Rattle.lan_meta.specs.declared.page.PageMeta.{PageMeta};
 ghost use Rattle.lan_meta.specs.Columns.{ColumnOf, RefusesColumn};
-ghost use Rattle.lan_meta.specs.PageKeeps.{PagesKeepRules};
+ghost use Rattle.lan_meta.specs.PageKeeps.{KeepsRules, PagesKeepRules};
 ghost use Rattle.lan_meta.specs.PageOf.{OneListOfSlots};
+ghost use Rattle.lan_meta.specs.PageRules.{EndBefore};
+ghost use Rattle.lan_meta.specs.PagesTold.{CanBeTold};
 ghost use Rattle.lan_meta.specs.Written.{column_text};
 
 /// Bytes are the metadata of one column of a leaf at most.
@@ -32,6 +34,13 @@ pub fn pages_are_few()
 pub fn written_columns_are_read()
     ensures { (bytes : Placed) (leaf : PlainLeaf) (end at : ℕ) (pages : List PageMeta) → ColumnOf bytes leaf end pages → sum_by (λ (page : PageMeta). page.rows) pages < 2 ^ 64
         → length (column_text pages) < 2 ^ 64 → ColumnOf (record { base = at; bytes = column_text pages }) leaf end pages }
+{}
+
+/// What is written of pages that keep to the rules for a leaf is read as them wherever it lies, where their
+/// buffers end at or before a place and all numbers are below 2^64.
+pub fn written_pages_are_read()
+    ensures { (leaf : PlainLeaf) (end at : ℕ) (pages : List PageMeta) → All (KeepsRules leaf) pages → All CanBeTold pages → All (λ (page : PageMeta). EndBefore end page.buffers) pages → end < 2 ^ 64
+        → sum_by (λ (page : PageMeta). page.rows) pages < 2 ^ 64 → length (column_text pages) < 2 ^ 64 → ColumnOf (record { base = at; bytes = column_text pages }) leaf end pages }
 {}
 
 /// The bytes of a page's buffers stand for one list of slots at most.

@@ -23,7 +23,7 @@ use Rattle.lan_wire.specs.Readers.{IsInt32}
 use Rattle.lan_wire.specs.Rules.{kind_at}
 use Rattle.lan_wire.specs.Spelling.{num_field, part_item, part_field, two_complement, key, varint}
 use Rattle.lan_wire.specs.Values.{parts_under}
-use Rattle.lan_wire.specs.Written.{parts, flag_number, WrittenField, spelling_of, FitsKind, CanWriteAll, about, items_placed}
+use Rattle.lan_wire.specs.Written.{Written, parts, flag_number, WrittenField, with_spellings, spelling_of, FitsKind, CanWriteAll, AreShort, about, items_placed}
 use Rattle.lan_wire.proofs.LawTerms.{written_read as written_items_read, all_short, parts_back}
 use Rattle.lan_schema.specs.FieldMessage.{Flat, SaysField, field_text, IsFlat}
 use Rattle.lan_schema.specs.FieldMessages.{listing, SaysFields}
@@ -232,22 +232,33 @@ texts_read (m ∷ ms) (t ∷ ts) fs e s =
 listed : (number : ℕ) → kind_at (listing number) number ≡ Messages
 listed number = ap (λ (b : Bool). cond b Messages Past) (nat_same number)
 
-about_one : (number : ℕ) (texts : List (List ℕ)) → about number ((number, parts texts) ∷ []) ≡ parts texts ∷ []
-about_one number texts = ap (λ (b : Bool). cond b (parts texts ∷ []) []) (nat_same number)
+about_all : (number : ℕ) (texts : List (List ℕ)) (others : List WrittenField) → about number others ≡ [] → about number ((number, parts texts) ∷ others) ≡ parts texts ∷ []
+about_all number texts others absent = ap (λ (b : Bool). cond b (parts texts ∷ about number others) (about number others)) (nat_same number) ∙ ap (λ (ws : List Written). parts texts ∷ ws) absent
 
-pub written_says : (number at : ℕ) (fs : PlainFields ℕ) → 0 < number → number < 2 ^ 29 → AreFields fs → CanTellAll fs → length (all_messages number (negsuc 0) fs) < 2 ^ 63 → SaysFields (record { base = at; bytes = all_messages number (negsuc 0) fs }) number (laid (negsuc 0) (trees_of fs))
-written_says number at fs low up types told small =
+-- before other fields of a message, none of them of the number
+pub written_says_before : (number at : ℕ) (fs : PlainFields ℕ) (others : List WrittenField) → 0 < number → number < 2 ^ 29 → AreFields fs → CanTellAll fs → length (all_messages number (negsuc 0) fs) < 2 ^ 63
+    → about number others ≡ [] → CanWriteAll (listing number) (number ∷ []) others → AreShort others → SaysFields (record { base = at; bytes = with_spellings (all_messages number (negsuc 0) fs) others }) number (laid (negsuc 0) (trees_of fs))
+written_says_before number at fs others low up types told small absent can_others short_others =
     let s = says_all number (negsuc 0) fs types (omega arith) told small in
-    let fields : List WrittenField = (number, parts s.texts) ∷ [] in
-    let size : length (spelling_of fields) < 2 ^ 64 = omega (arith, small, ap length s.spelled) in
+    let alone : List WrittenField = (number, parts s.texts) ∷ [] in
+    let fields : List WrittenField = (number, parts s.texts) ∷ others in
+    let size : length (spelling_of alone) < 2 ^ 64 = omega (arith, small, ap length s.spelled) in
     let fits : FitsKind (kind_at (listing number) number) (parts s.texts) = subst (λ (k : Kind). FitsKind k (parts s.texts)) (sym (listed number)) tt in
-    let can : CanWriteAll (listing number) [] fields = (record { low = low; up = up; room = refl; spells = tt; fits = fits }, tt) in
-    let reads = written_items_read (listing number) at fields can (all_short fields size) in
+    let can : CanWriteAll (listing number) [] fields = (record { low = low; up = up; room = refl; spells = tt; fits = fits }, can_others) in
+    let reads = written_items_read (listing number) at fields can ((all_short alone size).0, short_others) in
+    let whole : spelling_of fields ≡ with_spellings (all_messages number (negsuc 0) fs) others = ap (λ (b : List ℕ). with_spellings b others) (sym s.spelled) in
     record {
       items = items_placed at fields;
-      reads = subst (λ (bytes : List ℕ). ReadsItems (listing number) (record { base = at; bytes = bytes }) (items_placed at fields)) (sym s.spelled) reads;
-      said = texts_read (parts_under number (items_placed at fields)) s.texts (laid (negsuc 0) (trees_of fs)) (parts_back number at fields s.texts (about_one number s.texts)) s.said;
+      reads = subst (λ (bytes : List ℕ). ReadsItems (listing number) (record { base = at; bytes = bytes }) (items_placed at fields)) whole reads;
+      said = texts_read (parts_under number (items_placed at fields)) s.texts (laid (negsuc 0) (trees_of fs)) (parts_back number at fields s.texts (about_all number s.texts others absent)) s.said;
     }
+
+pub written_says : (number at : ℕ) (fs : PlainFields ℕ) → 0 < number → number < 2 ^ 29 → AreFields fs → CanTellAll fs → length (all_messages number (negsuc 0) fs) < 2 ^ 63 → SaysFields (record { base = at; bytes = all_messages number (negsuc 0) fs }) number (laid (negsuc 0) (trees_of fs))
+written_says number at fs low up types told small = written_says_before number at fs [] low up types told small refl tt tt
+
+-- what is written of fields is messages under the number
+pub written_messages : (number : ℕ) (fs : PlainFields ℕ) → AreFields fs → CanTellAll fs → length (all_messages number (negsuc 0) fs) < 2 ^ 63 → (texts : List (List ℕ)) × (all_messages number (negsuc 0) fs ≡ flat_map (λ text. part_item number text) texts)
+written_messages number fs types told small = let s = says_all number (negsuc 0) fs types (omega arith) told small in (s.texts, s.spelled)
 
 -- ---- the trees stand for the fields
 

@@ -1,12 +1,15 @@
 //! What holds of the messages of fields and of their logical types, each law as the contract of a function
 //! with an empty body. A proof of another crate cites a law by its term in `proofs/LawTerms.antt`.
 
-ghost use Rattle.std.specs.Prelude.{◌≡◌, ℕ, ℤ, ◌^◌, ◌<◌, ◌↔◌, List, length, map, negsuc};
+ghost use Rattle.std.specs.Prelude.{◌≡◌, ℕ, ℤ, ◌^◌, ◌<◌, ◌↔◌, List, [], ◌∷◌, length, map, flat_map, negsuc};
 ghost use Rattle.lan_bytes.specs.Placed.{Placed};
 ghost use Rattle.lan_model.specs.Plain.{PlainType, PlainField, PlainFields, fields_from, unnumbered};
 ghost use Rattle.lan_model.specs.Table.{AreColumns, IsField};
 ghost use Rattle.lan_wire.specs.declared.item.WireFault.{WireFault};
 ghost use Rattle.lan_wire.specs.Readers.{IsInt32};
+ghost use Rattle.lan_wire.specs.Spelling.{part_item};
+ghost use Rattle.lan_wire.specs.Written.{WrittenField, with_spellings, CanWriteAll, AreShort, about};
+ghost use Rattle.lan_schema.specs.FieldMessages.{listing};
 ghost use Rattle.lan_schema.specs.declared.fault.SchemaFault.{SchemaFault};
 ghost use Rattle.lan_schema.specs.declared.fault.SchemaFault.TheVariants.{Memory};
 ghost use Rattle.lan_schema.specs.FieldMessage.{Flat, IsFlat, SaysField, FailsField, field_text};
@@ -55,6 +58,16 @@ pub fn no_fields_where_a_fault_stands()
 pub fn written_fields_are_read()
     ensures { (at number : ℕ) (fields : PlainFields ℕ) → IsWritable number fields
         → FieldsOf (record { base = at; bytes = all_messages number (negsuc 0) fields }) number fields }
+{}
+
+/// What is written of a table's fields before other fields of a message, none of them of their number, stands
+/// for them still. It is messages under that number.
+pub fn written_fields_are_read_before_others()
+    ensures read { (at number : ℕ) (fields : PlainFields ℕ) (others : List WrittenField) → IsWritable number fields → about number others ≡ []
+        → CanWriteAll (listing number) (number ∷ []) others → AreShort others
+        → FieldsOf (record { base = at; bytes = with_spellings (all_messages number (negsuc 0) fields) others }) number fields }
+    ensures messages { (number : ℕ) (fields : PlainFields ℕ) → IsWritable number fields
+        → (texts : List (List ℕ)) × (all_messages number (negsuc 0) fields ≡ flat_map (λ text. part_item number text) texts) }
 {}
 
 /// Fields that a message stands for may be a table's, each has a number of its own, and messages can tell

@@ -1,7 +1,10 @@
+mod AskedFor
 mod Asking
 mod Built
 mod ByWords
+mod Datasets
 mod Ends
+mod Exists
 mod Failing
 mod Fronts
 mod L7
@@ -9,6 +12,7 @@ mod Linked
 mod NewestReply
 mod OneCount
 mod OneLink
+mod OneRan
 mod RunClauses
 mod Serving
 mod StepStands

@@ -76,7 +76,7 @@ same_column f (field j m false (list item)) a b same = absurd b.3
 same_column f (field j m false (struct members)) a b same = absurd b.3
 same_column f (field j m true ty) a b same = absurd b
 
-same_fields : (xs ys : List (PlainField ℕ)) → IsOneColumn xs → IsOneColumn ys → map unnumbered xs ≡ map unnumbered ys → xs ≡ ys
+pub same_fields : (xs ys : List (PlainField ℕ)) → IsOneColumn xs → IsOneColumn ys → map unnumbered xs ≡ map unnumbered ys → xs ≡ ys
 same_fields [] ys a b same = absurd a
 same_fields (f ∷ []) [] a b same = absurd b
 same_fields (f ∷ []) (g ∷ []) a b same = ap (λ x. x ∷ []) (same_column f g a b (cc same))
@@ -84,10 +84,10 @@ same_fields (f ∷ []) (g ∷ (h ∷ hs)) a b same = absurd b
 same_fields (f ∷ (g ∷ gs)) ys a b same = absurd a
 
 -- a text is the schema of one list of fields
-one_schema : (json : List ℕ) (xs ys : List (PlainField ℕ)) → Takes json xs → Takes json ys → xs ≡ ys
+pub one_schema : (json : List ℕ) (xs ys : List (PlainField ℕ)) → Takes json xs → Takes json ys → xs ≡ ys
 one_schema json xs ys a b = same_fields xs ys a.column b.column (cc (sym a.form ∙ b.form))
 
-created_at : (d : Dataset) (line : ℕ) (shown : Shown) (o : Judged (List Column)) (columns : List Column) → o ≡ Ok columns → is_built columns ≡ true → d.listed ≡ [] → shown.limit ≡ None
+pub created_at : (d : Dataset) (line : ℕ) (shown : Shown) (o : Judged (List Column)) (columns : List Column) → o ≡ Ok columns → is_built columns ≡ true → d.listed ≡ [] → shown.limit ≡ None
     → create_reply d line shown o ≡ Some (done (version_text 1) (with_version d 1 (record { columns = columns; rows = [] })))
 created_at d line shown o columns is built listed limit = rw (is, built, listed, limit) refl
 
@@ -95,10 +95,10 @@ limited_at : (d : Dataset) (line : ℕ) (shown : Shown) (o : Judged (List Column
     → create_reply d line shown o ≡ Some (refused (fault.Limit which number))
 limited_at d line shown o columns which number is built listed limit = rw (is, built, listed, limit) refl
 
-there_at : (d : Dataset) (line : ℕ) (shown : Shown) (o : Judged (List Column)) (columns : List Column) (version : ℕ) → o ≡ Ok columns → is_built columns ≡ true → newest d ≡ Some version → create_reply d line shown o ≡ Some (refused (fault.AlreadyThere version))
+pub there_at : (d : Dataset) (line : ℕ) (shown : Shown) (o : Judged (List Column)) (columns : List Column) (version : ℕ) → o ≡ Ok columns → is_built columns ≡ true → newest d ≡ Some version → create_reply d line shown o ≡ Some (refused (fault.AlreadyThere version))
 there_at d line shown o columns version is built there = rw (is, built, there) refl
 
-unbuilt_at : (d : Dataset) (line : ℕ) (shown : Shown) (o : Judged (List Column)) (columns : List Column) → o ≡ Ok columns → is_built columns ≡ false → create_reply d line shown o ≡ Some (refused fault.NotBuilt)
+pub unbuilt_at : (d : Dataset) (line : ℕ) (shown : Shown) (o : Judged (List Column)) (columns : List Column) → o ≡ Ok columns → is_built columns ≡ false → create_reply d line shown o ≡ Some (refused fault.NotBuilt)
 unbuilt_at d line shown o columns is none = rw (is, none) refl
 
 create_settled : (old : List Object) (d : Dataset) (told : Told) (outcome : Outcome) (link_puts : List Object) (json : List ℕ) (puts : List Object) (text : List ℕ) → told.request.asked ≡ create json → Agrees old d → Shows old told.request (create json) told.shown → answer d told (create json) ≡ Some outcome
@@ -111,7 +111,7 @@ create_settled old d told outcome link_puts json puts text asked agrees shows re
 
 -- ---- append
 
-newest_one : (old : List Object) (m n : PlainManifest) → NewestManifest old m → NewestManifest old n → m ≡ n
+pub newest_one : (old : List Object) (m n : PlainManifest) → NewestManifest old m → NewestManifest old n → m ≡ n
 newest_one old m n a b =
     let same : b.version ≡ a.version = omega (arith, a.newest.newest b.version b.newest.listed, b.newest.newest a.version a.newest.listed) in
     manifest_one old a.version m n a.reads (subst (λ v. ManifestAt old v n) same b.reads)
@@ -126,13 +126,13 @@ read_on : (old : List Object) (d : Dataset) (told : Told) (outcome : Outcome) (v
 read_on old d told outcome version agrees newest replied = version_read old d version (λ t. append_reply d told.shown (rows_of t.columns told.request.lines)) outcome agrees newest replied
 
 -- the dataset with the rows more
-abbrev after_append : Dataset → ℕ → Table → List (List PlainValue) → Dataset
+abbrev pub after_append : Dataset → ℕ → Table → List (List PlainValue) → Dataset
 after_append d version t rows = with_version d (version + 1) (record t { rows = t.rows ++ rows })
 
 after_is : (d : Dataset) (rows : List (List PlainValue)) (version : ℕ) (t : Table) → newest d ≡ Some version → table_at d version ≡ Some t → after d (change.append rows) ≡ Some (Ok (after_append d version t rows))
 after_is d rows version t is_newest at = rw (is_newest, at) refl
 
-changed : (d : Dataset) (shown : Shown) (rows : List (List PlainValue)) (version : ℕ) (t : Table) → newest d ≡ Some version → table_at d version ≡ Some t → append_reply d shown (Ok rows) ≡ Some (within shown.limit (after_append d version t rows))
+pub changed : (d : Dataset) (shown : Shown) (rows : List (List PlainValue)) (version : ℕ) (t : Table) → newest d ≡ Some version → table_at d version ≡ Some t → append_reply d shown (Ok rows) ≡ Some (within shown.limit (after_append d version t rows))
 changed d shown rows version t is_newest at = ap (option_map (changed_to shown)) (after_is d rows version t is_newest at)
 
 done_text : (d : Dataset) (version next : ℕ) (t : Table) (rows : List (List PlainValue)) → next ≡ version + 1 → version_text (unwrap_or (newest (after_append d version t rows)) 0) ≡ version_text next
@@ -159,7 +159,7 @@ append_settled old d told outcome link_puts puts text asked agrees shows replied
 -- ---- readings
 
 -- the lines of a table
-abbrev lines_of : Table → List ℕ
+abbrev pub lines_of : Table → List ℕ
 lines_of t = flat_map (line_of t.columns) t.rows
 
 same_lines : (old : List Object) (version : ℕ) (t : Table) (m : PlainManifest) (rows : List (List PlainValue)) → StandsAt old version t → ManifestAt old version m → t.rows ≡ rows → lines_of t ≡ text_of m.fields rows

@@ -18,7 +18,7 @@ use Rattle.lan_commit.proofs.FirstTable.{none_listed}
 use Rattle.lance_cli.specs.Replies.{Outcome, refused, on_version}
 use Rattle.lance_cli.specs.declared.fault.Fault.TheVariants.{NoDataset}
 
-found : (old : List Object) (stands : List (ℕ × Table)) (version : ℕ) (t : Table) → All (λ p. StandsAt old p.0 p.1) stands → option_map (λ p. p.1) (find (λ p. nat_eq p.0 version) stands) ≡ Some t → StandsAt old version t
+pub found : (old : List Object) (stands : List (ℕ × Table)) (version : ℕ) (t : Table) → All (λ p. StandsAt old p.0 p.1) stands → option_map (λ p. p.1) (find (λ p. nat_eq p.0 version) stands) ≡ Some t → StandsAt old version t
 found old [] version t each at = absurd (cc at)
 found old (p ∷ ps) version t each at = elim (cases_Bool (nat_eq p.0 version)) [
   | inl same ↦

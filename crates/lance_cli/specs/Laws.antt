@@ -1,10 +1,23 @@
 -- Laws of runs.
-use Rattle.std.specs.Prelude.{◌≡◌, ℕ, ◌≤◌, List, ◌∷◌, ◌++◌, length, take, Some, Result, Ok, Err}
-use Rattle.lan_model.specs.Dataset.{Dataset}
+use Rattle.std.specs.Prelude.{◌≡◌, ◌⊎◌, ℕ, ◌≤◌, ⊤, true, List, ◌∷◌, ◌++◌, length, take, map, All, IsSome, Option, Some, Result, Ok, Err}
+use Rattle.std.specs.Option.{ForSome}
+use Rattle.lan_model.specs.Dataset.{Dataset, table_at}
+use Rattle.lan_model.specs.Plain.{PlainValue, unnumbered}
+use Rattle.lan_model.specs.Table.{Column, Table, FitsRow}
+use Rattle.lan_form.specs.Form.{form}
+use Rattle.lan_rows.specs.Lines.{rows_of}
 use Rattle.lan_store.specs.declared.name.Object.{Object}
-use Rattle.lan_read.specs.Standing.{Agrees}
-use Rattle.lance_cli.specs.Chain.{Link, Chain, outcomes_of, puts_of, IsFront}
-use Rattle.lance_cli.specs.Replies.{Told, Mode, batch, Replied, replies, outcomes, left_after}
+use Rattle.lan_manifest.specs.Manifests.{PlainManifest}
+use Rattle.lan_read.specs.Newest.{NewestManifest}
+use Rattle.lan_read.specs.Standing.{StandsAt, Agrees}
+use Rattle.lance_cli.specs.Causes.{Reads}
+use Rattle.lance_cli.specs.Chain.{Link, IsLink, Chain, outcomes_of, puts_of, IsFront}
+use Rattle.lance_cli.specs.Commands.{Asked, create, append, scan, schema, Request}
+use Rattle.lance_cli.specs.Creates.{IsTaken}
+use Rattle.lance_cli.specs.Replies.{Told, Mode, single, batch, Replied, replies, outcomes, left_after, alone, asked_of}
+use Rattle.lance_cli.specs.Runs.{Entry, heard, IsRun, IsBeforeAll, IsUntouched, Ran}
+use Rattle.lance_cli.specs.Served.{Served}
+use Rattle.lance_cli.specs.Stage.{is_built}
 use Rattle.lance_cli.specs.declared.fault.Fault.{Fault}
 
 abbrev pub replied_as : List ℕ → Dataset → Result Unit Fault → Replied
@@ -34,3 +47,49 @@ FrontsStand = (mode : Mode) (old : List Object) (d : Dataset) (told : List Told)
 -- so many, and no others
 abbrev pub FrontsCount : Type 0
 FrontsCount = (old : List Object) (d : Dataset) (links : List Link) (m n : ℕ) (part : List Object) → IsFront old d links m part → IsFront old d links n part → m ≡ n
+
+-- ---- that there are chains
+
+-- what lines are read as fits the newest manifest's fields
+abbrev pub RowsFit : List Object → List (ℕ × List ℕ) → Type 0
+RowsFit objects lines = (m : PlainManifest) (rows : List (List PlainValue)) → NewestManifest objects m → rows_of (map unnumbered m.fields) lines ≡ Ok rows → All (FitsRow m.fields) rows
+
+-- what a command's text or lines are read as fits, as the reader of each says of what it reads
+abbrev pub IsSound : List Object → Request → Asked → Type 0
+IsSound objects r (create json) = (columns : List Column) → form json ≡ Ok columns → is_built columns ≡ true → IsTaken json
+IsSound objects r append = RowsFit objects r.lines
+IsSound objects r scan = ⊤
+IsSound objects r schema = ⊤
+
+-- each version that the command reads has a table in the dataset
+abbrev pub HasTables : List Object → Dataset → Asked → Type 0
+HasTables objects d asked = (version : ℕ) → Reads objects asked version → IsSome (table_at d version)
+
+-- on objects that agree with a dataset, a command has a link where the versions that it reads have tables there
+abbrev pub LinksExist : Type 0
+LinksExist = (objects : List Object) (d : Dataset) (r : Request) → Agrees objects d → IsSound objects r r.asked → HasTables objects d r.asked → (link : Link) × (link.told.request ≡ r) × IsLink objects d link
+
+-- each version that the command reads stands for a table
+abbrev pub AllStand : List Object → Asked → Type 0
+AllStand objects asked = (version : ℕ) → Reads objects asked version → (t : Table) × StandsAt objects version t
+
+-- where the versions that a command reads stand, there is a dataset with which the objects agree, and the command's chain on it
+abbrev pub RunsExist : Type 0
+RunsExist = (words : List (List ℕ)) (input : List ℕ) (objects : List Object) (asked : Asked) → asked_of words ≡ Some asked → IsSound objects (alone asked input) asked → AllStand objects asked
+    → (d : Dataset) × (links : List Link) × IsRun words input objects single d links
+
+-- ---- a command by itself
+
+-- what a command by itself did, on the objects at entry and with the lines of the input that is heard
+pub record ServedAlone (e : Entry) (asked : Asked) (now : Option (List Object)) (held holds : Option (List ℕ)) (result : Result Unit Fault) : Type 0 where
+  pub input : List ℕ
+  pub is_heard : ForSome (heard e) (λ all. input ≡ all)
+  pub served : Served (record { before = e.objects; now = now; held = held; holds = holds }) (alone asked input) result
+
+-- a run of one command did what that command does by itself, or was refused before the store was asked
+abbrev pub IsOfOne : Entry → Asked → Option (List Object) → Option (List ℕ) → Option (List ℕ) → Result Unit Fault → Type 0
+IsOfOne e asked now held holds (Ok done) = ForSome e.objects (λ _. ServedAlone e asked now held holds (Ok done))
+IsOfOne e asked now held holds (Err f) = (IsBeforeAll f × IsUntouched e.objects now held holds) ⊎ ServedAlone e asked now held holds (Err f)
+
+abbrev pub RunsOfOne : Type 0
+RunsOfOne = (e : Entry) (asked : Asked) (now : Option (List Object)) (held holds : Option (List ℕ)) (result : Result Unit Fault) → asked_of e.words ≡ Some asked → Ran e now held holds result → IsOfOne e asked now held holds result

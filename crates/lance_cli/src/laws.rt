@@ -1,5 +1,5 @@
 //! Laws of runs, each the contract of a function with an empty body.
-ghost use Rattle.lance_cli.specs.Laws.{RepliesOfParts, RepliesEnd, ChainsAreReplied, StepsAgree, FrontsStand, FrontsCount};
+ghost use Rattle.lance_cli.specs.Laws.{RepliesOfParts, RepliesEnd, ChainsAreReplied, StepsAgree, FrontsStand, FrontsCount, LinksExist, RunsExist, RunsOfOne};
 
 /// A batch in two parts is replied to part by part.
 pub fn replies_of_parts()
@@ -29,4 +29,19 @@ pub fn fronts_stand()
 /// A front stands for one number of changes.
 pub fn fronts_count()
     ensures { FrontsCount }
+{}
+
+/// A command has a link wherever the versions that it reads have tables in the dataset.
+pub fn links_exist()
+    ensures { LinksExist }
+{}
+
+/// A run has a chain wherever the versions that it reads stand.
+pub fn runs_exist()
+    ensures { RunsExist }
+{}
+
+/// What a run of one command did: why it was answered, what it put and what it printed.
+pub fn runs_of_one()
+    ensures { RunsOfOne }
 {}

@@ -3,6 +3,7 @@ ghost use Rattle.std.specs.Prelude.{[], cond, IsTrue, IsErrOf};
 ghost use Rattle.lan_rows.specs.Lines.{cut};
 ghost use Rattle.lan_store.specs.Causes.{HasCause};
 ghost use Rattle.lan_store.specs.Looked.{Fails};
+ghost use Rattle.lance_cli.specs.Asks.{AsksFor, AsksBy};
 ghost use Rattle.lance_cli.specs.Commands.{asked_as, reads_input};
 ghost use Rattle.lance_cli.specs.Failures.{failure_of, clashed};
 ghost use Rattle.lance_cli.specs.Replies.{asked_of};
@@ -52,6 +53,9 @@ pub fn run<S: Store, I: Source, O: Sink>(
     // What the words and the input decide comes before any call of the store.
     ensures order { Ordered (record { words = words.now; objects = (S.tells store.old).objects; input = I.left input.old }) (S.tells store.old) (S.tells store.new) result }
 
+    // How many ranges and bytes are asked of the store.
+    ensures asks { AsksBy (asked_of words.now) (S.tells store.old) (S.tells store.new) }
+
     // A command that reads input takes it to its end, and no other takes a byte.
     ensures input { TakenBy (wants_input (asked_of words.now)) (I.left input.old) (I.left input.new) result }
 
@@ -80,6 +84,7 @@ fn serve<S: Store, O: Sink>(
 ) -> Result<(), Fault>
     ensures served { Served (record { before = (S.tells store.old).objects; now = (S.tells store.new).objects; held = O.held out.old; holds = O.held out.new }) (record { asked = asked_as asked.now; line = line; lines = cond (reads_input (asked_as asked.now)) (cut 1 [] text.items) [] }) result }
     ensures words { WordsFirst (asked_as asked.now) line (S.tells store.old) (S.tells store.new) result }
+    ensures asks { AsksFor (asked_as asked.now) (S.tells store.old) (S.tells store.new) }
     ensures fails { Fails (failure_of result) (S.tells store.old) (S.tells store.new) }
     ensures raced_cause { HasCause (IsTrue (clashed result)) (S.tells store.old).clashes (S.tells store.new).clashes }
     ensures write_cause { HasCause (IsErrOf result Fault.WriteFault) (O.faults out.old) (O.faults out.new) }

@@ -2,6 +2,7 @@ use Rattle.std.proofs.Common.{sym}
 use Rattle.std.proofs.lemmas.Result.{err_from_is_err_and}
 use Rattle.lance_cli.specs.Commands.{asked_as, reads_input}
 use Rattle.lance_cli.specs.Replies.{alone, asked_of}
+use Rattle.lance_cli.proofs.AskedFor.{none_by, asked_by}
 use Rattle.lance_cli.proofs.RunClauses.{served_kept, served_ran, served_done, served_stops, served_decided, moments_of, served_order, served_takes, takes_as, unread_of, unread_takes}
 use Rattle.lance_cli.proofs.run.run.Goals as goal
 
@@ -37,3 +38,9 @@ pub returns-clause-input : goal.returns-clause-input
 returns-clause-input g c =
     takes_as (record { words = c.args.words.now; objects = (g.S.Store.tells c.args.store.now).objects; input = g.I.Source.left c.args.input.now }) (asked_as c.in-Some.asked) (g.I.Source.left c.take_text.new.input) c.in_ok-text.text (record { before = (g.S.Store.tells c.args.store.now).objects; now = (g.S.Store.tells c.serve.new.store).objects; held = g.O.Sink.held c.args.out.now; holds = g.O.Sink.held c.serve.new.out }) (alone (asked_as c.in-Some.asked) c.in_ok-text.text.items) c.serve.result (sym c.in-Some.ensures)
     c.in_ok-text.ensures.takes c.serve.ensures.served
+
+pub returns-in_err-text-clause-asks : goal.returns-in_err-text-clause-asks
+returns-in_err-text-clause-asks g c = none_by (asked_of c.args.words.now) (g.S.Store.tells c.args.store.now)
+
+pub returns-clause-asks : goal.returns-clause-asks
+returns-clause-asks g c = asked_by (asked_of c.args.words.now) (asked_as c.in-Some.asked) _ _ (sym c.in-Some.ensures) c.serve.ensures.asks

@@ -85,3 +85,21 @@ returns-in_err-planned-in-Append-clause-fails g c =
 
 pub returns-in-Schema-clause-fails : goal.returns-in-Schema-clause-fails
 returns-in-Schema-clause-fails g c = c.serve_schema.ensures.looked.fails
+
+pub returns-in_err-planned-in-Create-clause-asks : goal.returns-in_err-planned-in-Create-clause-asks
+returns-in_err-planned-in-Create-clause-asks g c = rw c.in-Create.is c.in_err-planned-in-Create.ensures.looked.asks
+
+pub returns-in_err-planned-in-Append-clause-asks : goal.returns-in_err-planned-in-Append-clause-asks
+returns-in_err-planned-in-Append-clause-asks g c = rw c.in-Append.is c.in_err-planned-in-Append.ensures.looked.asks
+
+pub returns-in_ok-planned-in-Create-clause-asks : goal.returns-in_ok-planned-in-Create-clause-asks
+returns-in_ok-planned-in-Create-clause-asks g c = rw c.in-Create.is (c.puts_follow_looks.ensures.then _ _ _ _ _ _ _ c.in_ok-planned-in-Create.ensures.looked c.apply.ensures.stored).asks
+
+pub returns-in_ok-planned-in-Append-clause-asks : goal.returns-in_ok-planned-in-Append-clause-asks
+returns-in_ok-planned-in-Append-clause-asks g c = rw c.in-Append.is (c.puts_follow_looks.ensures.then _ _ _ _ _ _ _ c.in_ok-planned-in-Append.ensures.looked c.apply-in-Append.ensures.stored).asks
+
+pub returns-in-Scan-clause-asks : goal.returns-in-Scan-clause-asks
+returns-in-Scan-clause-asks g c = rw c.in-Scan.is c.serve_scan.ensures.asks
+
+pub returns-in-Schema-clause-asks : goal.returns-in-Schema-clause-asks
+returns-in-Schema-clause-asks g c = rw c.in-Schema.is c.serve_schema.ensures.looked.asks

@@ -1,4 +1,4 @@
-use Rattle.std.proofs.Common.{◌∙◌, refl}
+use Rattle.std.proofs.Common.{inl, inr, ◌∙◌, refl}
 use Rattle.std.proofs.lemmas.Result.{err_from_is_err_and}
 use Rattle.lan_manifest.specs.Manifests.{plain_manifest}
 use Rattle.lan_store.specs.Budget.{ranges}
@@ -36,3 +36,22 @@ pub returns-clause-served : goal.returns-clause-served
 returns-clause-served g c = λ line lines.
     printed_scan (record { before = (g.S.Store.tells c.args.store.now).objects; now = (g.S.Store.tells c.print_table.new.store).objects; held = g.O.Sink.held c.args.out.now; holds = g.O.Sink.held c.print_table.new.out }) line lines (plain_manifest c.in_ok-manifest.manifest)
     (c.print_table.ensures.looked.kept ∙ c.open_newest.ensures.looked.kept) c.in_ok-manifest.ensures.opens (λ all told. c.in_ok-print_table.ensures.scans all (c.open_newest.ensures.looked.kept ∙ told))
+
+pub returns-in_err-manifest-clause-asks : goal.returns-in_err-manifest-clause-asks
+returns-in_err-manifest-clause-asks g c = λ all told. inl c.in_err-manifest.ensures.looked.asks
+
+pub returns-in_err-print_table-clause-asks : goal.returns-in_err-print_table-clause-asks
+returns-in_err-print_table-clause-asks g c = λ all told.
+    inr (record {
+      manifest = plain_manifest c.in_ok-manifest.manifest;
+      newest = c.in_ok-manifest.ensures.opens all told;
+      got = (c.looks_add_up.ensures.then _ _ _ _ _ _ c.in_ok-manifest.ensures.looked c.in_err-print_table.ensures.looked).asks;
+    })
+
+pub returns-clause-asks : goal.returns-clause-asks
+returns-clause-asks g c = λ all told.
+    inr (record {
+      manifest = plain_manifest c.in_ok-manifest.manifest;
+      newest = c.in_ok-manifest.ensures.opens all told;
+      got = (c.looks_add_up.ensures.then _ _ _ _ _ _ c.in_ok-manifest.ensures.looked c.in_ok-print_table.ensures.looked).asks;
+    })

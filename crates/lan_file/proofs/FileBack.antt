@@ -1,13 +1,11 @@
 -- What is written of columns has them at their places, and its head is read.
-use Rattle.std.proofs.Common.{◌≡◌, refl, sym, ◌∙◌, ap, subst, ℕ, zero, suc, ◌+◌, ◌*◌, ◌-◌, ◌^◌, ◌<◌, ◌≤◌, List, [], ◌∷◌, ◌++◌, length, take, drop, map, arith, length-append, append_assoc}
-use Rattle.std.specs.Prelude.{All, Some, None, negsuc, slice_get}
-use Rattle.std.specs.List.{concat}
+use Rattle.std.proofs.Common.{◌≡◌, refl, sym, ◌∙◌, ap, subst, ℕ, zero, suc, ◌+◌, ◌*◌, ◌^◌, ◌<◌, ◌≤◌, List, [], ◌∷◌, ◌++◌, length, drop, map, arith, length-append, append_assoc}
+use Rattle.std.specs.Prelude.{All, Some, slice_get}
 use Rattle.std.proofs.lemmas.List.{length-map, map-append}
 use Rattle.std.proofs.lemmas.List.Elements.{All-nil, All-cons}
 use Rattle.lan_bytes.specs.Placed.{Placed}
 use Rattle.lan_model.specs.declared.range.Range.{Range}
 use Rattle.lan_model.specs.Plain.{PlainFields}
-use Rattle.lan_schema.specs.FieldTree.{all_messages}
 use Rattle.lan_wire.specs.Rules.{open_to}
 use Rattle.lan_wire.specs.Written.{items_placed}
 use Rattle.lan_wire.proofs.LawTerms.{written_read, all_short, num_back}
@@ -23,9 +21,9 @@ use Rattle.lan_file.specs.declared.tail.Extent.{Extent}
 use Rattle.lan_file.specs.declared.tail.Footer.{Footer}
 use Rattle.lan_file.specs.Descriptor.{StatesRows, descriptor_written, descriptor_text}
 use Rattle.lan_file.specs.FileOf.{IsWritten, AreWritten}
-use Rattle.lan_file.specs.FileText.{with_buffers, places_behind, with_pages, page_behind, pages_behind, with_columns, columns_behind, file_with, file_text}
-use Rattle.lan_file.specs.Heads.{Pick, placed, column_at, rows_in, LiesRight, IsThere, KeepsRegions, IsWhole, PickedColumn, PickedColumns, HasHead}
-use Rattle.lan_file.specs.Parts.{part, tail_of, footer_in, footer_of, extent_in, extent, descriptor_of, IsFile, HasColumn}
+use Rattle.lan_file.specs.FileText.{with_buffers, places_behind, with_pages, page_behind, pages_behind, with_columns, columns_behind, file_text}
+use Rattle.lan_file.specs.Heads.{Pick, placed, column_at, LiesRight, IsThere, PickedColumn, PickedColumns, HasHead}
+use Rattle.lan_file.specs.Parts.{part, footer_in, footer_of, extent_in, descriptor_of}
 use Rattle.lan_file.specs.Writing.{aligned, footer_text}
 use Rattle.lan_file.proofs.FileLaid.{Grown, grown_none, grown_by, grown_then, length_grown, aligned_grown, FileLaid, MessageLaid, file_laid}
 use Rattle.lan_file.proofs.PartLemmas.{part-here}
@@ -75,9 +73,9 @@ column_ends before (c ∷ cs) end (suc n) pages within is = column_ends (with_pa
 
 -- ---- the descriptor
 
-descriptor_back : (at rows : ℕ) (fields : PlainFields ℕ) → rows < 2 ^ 64 → length (descriptor_text fields rows) < 2 ^ 64 → StatesRows (record { base = at; bytes = descriptor_text fields rows }) rows
-descriptor_back at rows fields few small =
-    let written = descriptor_written fields rows in
+descriptor_back : (at rows : ℕ) (schema : PlainFields ℕ) → rows < 2 ^ 64 → length (descriptor_text schema rows) < 2 ^ 64 → StatesRows (record { base = at; bytes = descriptor_text schema rows }) rows
+descriptor_back at rows schema few small =
+    let written = descriptor_written schema rows in
     record {
       items = items_placed at written;
       reads = written_read (open_to FILE_DESCRIPTOR) at written (record { low = omega arith; up = omega arith; room = refl; spells = tt; fits = tt }, (record { low = omega arith; up = omega arith; room = refl; spells = few; fits = tt }, tt))
@@ -107,8 +105,8 @@ length-columns_behind before [] = refl
 length-columns_behind before (c ∷ cs) = omega (arith, length-columns_behind (with_pages before c) cs)
 
 -- what is known of a file that is written of these columns
-record Known (file : List ℕ) (rows : ℕ) (fields : PlainFields ℕ) (columns : List (List BuiltPage)) : Type 0 where
-  laid : FileLaid file (with_columns [] columns) (descriptor_text fields rows) (map column_text (columns_behind [] columns))
+record Known (file : List ℕ) (rows : ℕ) (schema : PlainFields ℕ) (columns : List (List BuiltPage)) : Type 0 where
+  laid : FileLaid file (with_columns [] columns) (descriptor_text schema rows) (map column_text (columns_behind [] columns))
   small : length file < 2 ^ 64
   few_rows : rows < 2 ^ 64
   footer : footer_of file ≡ written_footer laid.first laid.table (length columns)
@@ -117,11 +115,11 @@ record Known (file : List ℕ) (rows : ℕ) (fields : PlainFields ℕ) (columns 
 pub count_is : (columns : List (List BuiltPage)) → length (map column_text (columns_behind [] columns)) ≡ length columns
 count_is columns = length-map (columns_behind [] columns) column_text ∙ length-columns_behind [] columns
 
-known : (fields : PlainFields ℕ) (rows : ℕ) (columns : List (List BuiltPage)) → length (file_text fields rows columns) < 2 ^ 64 → rows < 2 ^ 64 → length columns < 2 ^ 32 → Known (file_text fields rows columns) rows fields columns
+known : (schema : PlainFields ℕ) (rows : ℕ) (columns : List (List BuiltPage)) → length (file_text schema rows columns) < 2 ^ 64 → rows < 2 ^ 64 → length columns < 2 ^ 32 → Known (file_text schema rows columns) rows schema columns
 unfolding file_text
-known fields rows columns small few few_columns =
+known schema rows columns small few few_columns =
     let messages = map column_text (columns_behind [] columns) in
-    let l = file_laid (with_columns [] columns) (descriptor_text fields rows) messages in
+    let l = file_laid (with_columns [] columns) (descriptor_text schema rows) messages in
     let count = count_is columns in
     let long = l.long ∙ ap (λ (n : ℕ). l.table + 16 * n + 56) count in
     record {
@@ -134,31 +132,31 @@ known fields rows columns small few few_columns =
 
 -- ---- the columns that are asked
 
-column_is : (file : List ℕ) (rows : ℕ) (fields : PlainFields ℕ) (columns : List (List BuiltPage)) (k : Known file rows fields columns) (pick : Pick) (pages : List PageMeta) → IsWritten rows columns pick pages
+column_is : (file : List ℕ) (rows : ℕ) (schema : PlainFields ℕ) (columns : List (List BuiltPage)) (k : Known file rows schema columns) (pick : Pick) (pages : List PageMeta) → IsWritten rows columns pick pages
     → MessageLaid file k.laid.first k.laid.table pick.column (column_text pages)
-column_is file rows fields columns k pick pages w =
+column_is file rows schema columns k pick pages w =
     let s = split (columns_behind [] columns) pick.column pages w.there in
     let is : map column_text (columns_behind [] columns) ≡ map column_text s.before ++ column_text pages ∷ map column_text s.after = ap (map column_text) s.is ∙ map-append column_text s.before (pages ∷ s.after) in
     let count : length (map column_text s.before) ≡ pick.column = length-map s.before column_text ∙ s.count in
     subst (λ (n : ℕ). MessageLaid file k.laid.first k.laid.table n (column_text pages)) count (k.laid.message (map column_text s.before) (map column_text s.after) (column_text pages) is)
 
-pick_there : (file : List ℕ) (rows : ℕ) (fields : PlainFields ℕ) (columns : List (List BuiltPage)) (k : Known file rows fields columns) (pick : Pick) (pages : List PageMeta) → IsWritten rows columns pick pages → pick.column < length columns
-pick_there file rows fields columns k pick pages w =
+pick_there : (file : List ℕ) (rows : ℕ) (schema : PlainFields ℕ) (columns : List (List BuiltPage)) (k : Known file rows schema columns) (pick : Pick) (pages : List PageMeta) → IsWritten rows columns pick pages → pick.column < length columns
+pick_there file rows schema columns k pick pages w =
     let s = split (columns_behind [] columns) pick.column pages w.there in
     omega (arith, length-columns_behind [] columns, ap length s.is, length-append s.before (pages ∷ s.after), s.count)
 
-place_is : (file : List ℕ) (rows : ℕ) (fields : PlainFields ℕ) (columns : List (List BuiltPage)) (k : Known file rows fields columns) (pick : Pick) (pages : List PageMeta) (w : IsWritten rows columns pick pages)
-    → column_at file pick.column ≡ record { at = (column_is file rows fields columns k pick pages w).at; size = length (column_text pages) }
-place_is file rows fields columns k pick pages w =
-    let m = column_is file rows fields columns k pick pages w in
+place_is : (file : List ℕ) (rows : ℕ) (schema : PlainFields ℕ) (columns : List (List BuiltPage)) (k : Known file rows schema columns) (pick : Pick) (pages : List PageMeta) (w : IsWritten rows columns pick pages)
+    → column_at file pick.column ≡ record { at = (column_is file rows schema columns k pick pages w).at; size = length (column_text pages) }
+place_is file rows schema columns k pick pages w =
+    let m = column_is file rows schema columns k pick pages w in
     ap (λ (f : Footer). extent_in (part file (f.column_table + 16 * pick.column) 16)) k.footer
     ∙ ap extent_in m.entry
     ∙ entry_read m.at (length (column_text pages)) (omega (arith, m.before, k.long, k.small)) (omega (arith, m.before, k.long, k.small))
 
-pick_back : (file : List ℕ) (rows : ℕ) (fields : PlainFields ℕ) (columns : List (List BuiltPage)) → Known file rows fields columns → (pick : Pick) (pages : List PageMeta) → IsWritten rows columns pick pages → PickedColumn file rows pick pages
-pick_back file rows fields columns k pick pages w =
-    let m = column_is file rows fields columns k pick pages w in
-    let e = place_is file rows fields columns k pick pages w in
+pick_back : (file : List ℕ) (rows : ℕ) (schema : PlainFields ℕ) (columns : List (List BuiltPage)) → Known file rows schema columns → (pick : Pick) (pages : List PageMeta) → IsWritten rows columns pick pages → PickedColumn file rows pick pages
+pick_back file rows schema columns k pick pages w =
+    let m = column_is file rows schema columns k pick pages w in
+    let e = place_is file rows schema columns k pick pages w in
     let first : (footer_of file).columns_at ≡ k.laid.first = ap (λ (f : Footer). f.columns_at) k.footer in
     let ends : All (λ (p : PageMeta). EndBefore k.laid.first p.buffers) pages = column_ends [] columns k.laid.first pick.column pages k.laid.buffers_before w.there in
     let back : ColumnOf (record { base = m.at; bytes = column_text pages }) pick.leaf k.laid.first pages =
@@ -171,10 +169,10 @@ pick_back file rows fields columns k pick pages w =
       rows_are = w.rows_are;
     }
 
-lies : (file : List ℕ) (rows : ℕ) (fields : PlainFields ℕ) (columns : List (List BuiltPage)) (k : Known file rows fields columns) (pick : Pick) (pages : List PageMeta) → IsWritten rows columns pick pages → LiesRight file pick
-lies file rows fields columns k pick pages w = λ there.
-    let m = column_is file rows fields columns k pick pages w in
-    let e = place_is file rows fields columns k pick pages w in
+lies : (file : List ℕ) (rows : ℕ) (schema : PlainFields ℕ) (columns : List (List BuiltPage)) (k : Known file rows schema columns) (pick : Pick) (pages : List PageMeta) → IsWritten rows columns pick pages → LiesRight file pick
+lies file rows schema columns k pick pages w = λ there.
+    let m = column_is file rows schema columns k pick pages w in
+    let e = place_is file rows schema columns k pick pages w in
     let at = ap (λ (x : Extent). x.at) e in
     let size = ap (λ (x : Extent). x.size) e in
     record {
@@ -182,24 +180,24 @@ lies file rows fields columns k pick pages w = λ there.
       before = omega (arith, at, size, m.before, ap (λ (f : Footer). f.column_table) k.footer);
     }
 
-all_lie : (file : List ℕ) (rows : ℕ) (fields : PlainFields ℕ) (columns : List (List BuiltPage)) (k : Known file rows fields columns) (picks : List Pick) (found : List (List PageMeta)) → AreWritten rows columns picks found → All (LiesRight file) picks
-all_lie file rows fields columns k [] found w = All-nil (LiesRight file)
-all_lie file rows fields columns k (pick ∷ picks) found w = All-cons (LiesRight file) pick picks (lies file rows fields columns k pick w.0 w.3) (all_lie file rows fields columns k picks w.1 w.4)
+all_lie : (file : List ℕ) (rows : ℕ) (schema : PlainFields ℕ) (columns : List (List BuiltPage)) (k : Known file rows schema columns) (picks : List Pick) (found : List (List PageMeta)) → AreWritten rows columns picks found → All (LiesRight file) picks
+all_lie file rows schema columns k [] found w = All-nil (LiesRight file)
+all_lie file rows schema columns k (pick ∷ picks) found w = All-cons (LiesRight file) pick picks (lies file rows schema columns k pick w.0 w.3) (all_lie file rows schema columns k picks w.1 w.4)
 
-all_there : (file : List ℕ) (rows : ℕ) (fields : PlainFields ℕ) (columns : List (List BuiltPage)) (k : Known file rows fields columns) (picks : List Pick) (found : List (List PageMeta)) → AreWritten rows columns picks found → All (IsThere file) picks
-all_there file rows fields columns k [] found w = All-nil (IsThere file)
-all_there file rows fields columns k (pick ∷ picks) found w =
-    All-cons (IsThere file) pick picks (omega (arith, pick_there file rows fields columns k pick w.0 w.3, ap (λ (f : Footer). f.columns) k.footer)) (all_there file rows fields columns k picks w.1 w.4)
+all_there : (file : List ℕ) (rows : ℕ) (schema : PlainFields ℕ) (columns : List (List BuiltPage)) (k : Known file rows schema columns) (picks : List Pick) (found : List (List PageMeta)) → AreWritten rows columns picks found → All (IsThere file) picks
+all_there file rows schema columns k [] found w = All-nil (IsThere file)
+all_there file rows schema columns k (pick ∷ picks) found w =
+    All-cons (IsThere file) pick picks (omega (arith, pick_there file rows schema columns k pick w.0 w.3, ap (λ (f : Footer). f.columns) k.footer)) (all_there file rows schema columns k picks w.1 w.4)
 
-all_back : (file : List ℕ) (rows : ℕ) (fields : PlainFields ℕ) (columns : List (List BuiltPage)) → Known file rows fields columns → (picks : List Pick) (found : List (List PageMeta)) → AreWritten rows columns picks found → PickedColumns file rows picks found
-all_back file rows fields columns k [] found w = w
-all_back file rows fields columns k (pick ∷ picks) found w = (w.0, w.1, w.2, pick_back file rows fields columns k pick w.0 w.3, all_back file rows fields columns k picks w.1 w.4)
+all_back : (file : List ℕ) (rows : ℕ) (schema : PlainFields ℕ) (columns : List (List BuiltPage)) → Known file rows schema columns → (picks : List Pick) (found : List (List PageMeta)) → AreWritten rows columns picks found → PickedColumns file rows picks found
+all_back file rows schema columns k [] found w = w
+all_back file rows schema columns k (pick ∷ picks) found w = (w.0, w.1, w.2, pick_back file rows schema columns k pick w.0 w.3, all_back file rows schema columns k picks w.1 w.4)
 
-head_back : (file : List ℕ) (rows : ℕ) (fields : PlainFields ℕ) (columns : List (List BuiltPage)) → Known file rows fields columns → (picks : List Pick) (found : List (List PageMeta)) → AreWritten rows columns picks found → HasHead picks file rows found
-head_back file rows fields columns k picks found w =
+head_back : (file : List ℕ) (rows : ℕ) (schema : PlainFields ℕ) (columns : List (List BuiltPage)) → Known file rows schema columns → (picks : List Pick) (found : List (List PageMeta)) → AreWritten rows columns picks found → HasHead picks file rows found
+head_back file rows schema columns k picks found w =
     let l = k.laid in
     let count = count_is columns in
-    let descriptor = descriptor_text fields rows in
+    let descriptor = descriptor_text schema rows in
     let first = ap (λ (f : Footer). f.columns_at) k.footer in
     let table = ap (λ (f : Footer). f.column_table) k.footer in
     let globals_at = ap (λ (f : Footer). f.globals_table) k.footer in
@@ -224,22 +222,22 @@ head_back file rows fields columns k picks found w =
             globals_table = omega (arith, globals_at, globals, k.long);
           };
           descriptor = λ some. omega (arith, ap (λ (x : Extent). x.at) entry, ap (λ (x : Extent). x.size) entry, l.descriptor_before, first);
-          columns = all_lie file rows fields columns k picks found w;
+          columns = all_lie file rows schema columns k picks found w;
         };
         described = omega (arith, globals);
-        there = all_there file rows fields columns k picks found w;
+        there = all_there file rows schema columns k picks found w;
       };
-      rows_are = subst (λ (p : Placed). StatesRows p rows) (sym there) (descriptor_back l.descriptor_at rows fields k.few_rows size);
-      columns_are = all_back file rows fields columns k picks found w;
+      rows_are = subst (λ (p : Placed). StatesRows p rows) (sym there) (descriptor_back l.descriptor_at rows schema k.few_rows size);
+      columns_are = all_back file rows schema columns k picks found w;
     }
 
-pub file_back : (fields : PlainFields ℕ) (rows : ℕ) (columns : List (List BuiltPage)) (picks : List Pick) (found : List (List PageMeta)) → rows < 2 ^ 64 → length columns < 2 ^ 32 → length (file_text fields rows columns) < 2 ^ 64 → AreWritten rows columns picks found
-    → HasHead picks (file_text fields rows columns) rows found
-file_back fields rows columns picks found few few_columns small w = head_back (file_text fields rows columns) rows fields columns (known fields rows columns small few few_columns) picks found w
+pub file_back : (schema : PlainFields ℕ) (rows : ℕ) (columns : List (List BuiltPage)) (picks : List Pick) (found : List (List PageMeta)) → rows < 2 ^ 64 → length columns < 2 ^ 32 → length (file_text schema rows columns) < 2 ^ 64 → AreWritten rows columns picks found
+    → HasHead picks (file_text schema rows columns) rows found
+file_back schema rows columns picks found few few_columns small w = head_back (file_text schema rows columns) rows schema columns (known schema rows columns small few few_columns) picks found w
 
 -- ---- buffers at their places
 
-buffers_there : (before : List ℕ) (buffers : List (List ℕ)) (file : List ℕ) → Grown (with_buffers before buffers) file → buffers_in file (places_behind before buffers) ≡ buffers
+pub buffers_there : (before : List ℕ) (buffers : List (List ℕ)) (file : List ℕ) → Grown (with_buffers before buffers) file → buffers_in file (places_behind before buffers) ≡ buffers
 buffers_there before [] file g = refl
 buffers_there before (b ∷ bs) file g =
     let next : List ℕ = aligned before ++ b in
@@ -249,14 +247,6 @@ buffers_there before (b ∷ bs) file g =
     let rest = buffers_there next bs file g in
     λ i. here i ∷ rest i
 
--- the buffers of each page in the file are those that it was built with
-abbrev pub HaveBuffers : List ℕ → List BuiltPage → List PageMeta → Type 0
-HaveBuffers file [] metas = metas ≡ []
-HaveBuffers file (page ∷ pages) metas =
-    (first : PageMeta) × (later : List PageMeta) × (metas ≡ first ∷ later) × (first.rows ≡ page.rows) × (first.layout ≡ page.layout) × (buffers_in file first.buffers ≡ page.buffers) × HaveBuffers file pages later
-
-pub pages_there : (before : List ℕ) (pages : List BuiltPage) (file : List ℕ) → Grown (with_pages before pages) file → HaveBuffers file pages (pages_behind before pages)
-pages_there before [] file g = refl
-pages_there before (p ∷ ps) file g =
-    let next = with_buffers before p.buffers in
-    (page_behind before p, pages_behind next ps, refl, refl, refl, buffers_there before p.buffers file (grown_then next (with_pages next ps) file (pages_grown next ps) g), pages_there next ps file g)
+pub file_grown : (schema : PlainFields ℕ) (rows : ℕ) (columns : List (List BuiltPage)) → Grown (with_columns [] columns) (file_text schema rows columns)
+unfolding file_text
+file_grown schema rows columns = (file_laid (with_columns [] columns) (descriptor_text schema rows) (map column_text (columns_behind [] columns))).grown

@@ -1,5 +1,5 @@
 -- What follows of the bytes that are held where a step of reading a head is refused.
-use Rattle.std.proofs.Common.{◌≡◌, sym, ◌∙◌, ap, subst, ℕ, ◌+◌, ◌-◌, ◌<◌, ◌≤◌, List, length, arith}
+use Rattle.std.proofs.Common.{◌≡◌, subst, ℕ, ◌+◌, ◌-◌, ◌<◌, ◌≤◌, List, length, arith}
 use Rattle.std.specs.Prelude.{Option, Some, None, IsSomeAnd, Err}
 use Rattle.lan_store.specs.Budget.{Budget, Asks}
 use Rattle.lan_store.specs.Looked.{Looked}

@@ -1,10 +1,9 @@
 -- Bytes have one head, and where they have one no reason stands.
-use Rattle.std.proofs.Common.{◌≡◌, refl, sym, ◌∙◌, ap, subst, ℕ, zero, suc, ◌<◌, ◌≤◌, List, [], ◌∷◌, length, arith}
-use Rattle.std.specs.Prelude.{All, Contains, Some, slice_index_or}
+use Rattle.std.proofs.Common.{◌≡◌, sym, ◌∙◌, ap, subst, ℕ, zero, suc, ◌<◌, List, [], ◌∷◌, length, arith}
+use Rattle.std.specs.Prelude.{Contains, Some, slice_index_or}
 use Rattle.std.proofs.lemmas.List.Elements.{All-contains}
 use Rattle.lan_bytes.specs.Placed.{Placed}
 use Rattle.lan_wire.specs.Rules.{open_to}
-use Rattle.lan_wire.specs.Values.{num_under}
 use Rattle.lan_wire.proofs.Nested.{reads_as_one, reads_or_fails}
 use Rattle.lan_meta.specs.declared.page.PageMeta.{PageMeta}
 use Rattle.lan_meta.proofs.LawTerms.{one_column, column_fails}

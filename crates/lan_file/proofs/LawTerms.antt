@@ -2,3 +2,6 @@
 pub use Rattle.lan_file.proofs.Lengths.{rows_have_bytes}
 pub use Rattle.lan_file.proofs.Unique.{one_list, no_reason}
 pub use Rattle.lan_file.proofs.Written.{written_holds}
+pub use Rattle.lan_file.proofs.FileBack.{file_back}
+pub use Rattle.lan_file.proofs.FileStands.{file_stands, one_file}
+pub use Rattle.lan_file.proofs.HeadLaws.{one_head, no_head_reason}

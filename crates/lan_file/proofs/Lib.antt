@@ -2,6 +2,7 @@ pub mod Entries
 pub mod FileBack
 pub mod FileLaid
 pub mod FilePut
+pub mod FileStands
 pub mod HeadHeld
 pub mod HeadLaws
 pub mod Held

@@ -1,6 +1,6 @@
 -- The columns that are asked, one after another.
-use Rattle.std.proofs.Common.{◌≡◌, ◌⊎◌, inl, inr, sym, ◌∙◌, refl, ap, subst, ℕ, ◌+◌, ◌*◌, ◌-◌, ◌<◌, ◌≤◌, List, [], ◌∷◌, ◌++◌, length, take, arith}
-use Rattle.std.specs.Prelude.{All, Contains, map, None, Some, Err, slice_index_or}
+use Rattle.std.proofs.Common.{◌≡◌, ◌⊎◌, inl, inr, sym, ◌∙◌, refl, ap, subst, ℕ, ◌+◌, ◌<◌, ◌≤◌, List, [], ◌∷◌, ◌++◌, length, take}
+use Rattle.std.specs.Prelude.{Some, Err, slice_index_or}
 use Rattle.std.proofs.lemmas.List.{map_more, take_all, map_push}
 use Rattle.lan_bytes.specs.Placed.{Placed}
 use Rattle.lan_meta.specs.declared.message.MetaFault.{MetaFault}
@@ -10,7 +10,7 @@ use Rattle.lan_meta.specs.declared.page.ColumnMeta.{ColumnMeta}
 use Rattle.lan_meta.specs.declared.page.PageMeta.{PageMeta}
 use Rattle.lan_file.specs.declared.head.ColumnPick.{ColumnPick}
 use Rattle.lan_file.specs.declared.head_fault.HeadFault.{HeadFault}
-use Rattle.lan_file.specs.declared.head_fault.HeadFault.TheVariants.{Outside, Store, Memory}
+use Rattle.lan_file.specs.declared.head_fault.HeadFault.TheVariants.{Outside, Memory}
 use Rattle.lan_file.specs.declared.head_fault.HeadReason.TheVariants.{Meta, ColumnRows}
 use Rattle.lan_file.specs.declared.tail.Extent.{Extent}
 use Rattle.lan_file.specs.declared.tables.Tables.{Tables}

@@ -1,6 +1,6 @@
 -- What is known of an object's bytes once its tables were read.
 use Rattle.std.proofs.Common.{◌≡◌, sym, ◌∙◌, ap, subst, ℕ, ◌+◌, ◌*◌, ◌-◌, ◌^◌, ◌<◌, ◌≤◌, List, length, arith}
-use Rattle.std.specs.Prelude.{All, Contains, IsSomeAnd, Option, Some, Result, Ok, Err}
+use Rattle.std.specs.Prelude.{All, Contains, IsSomeAnd, Option, Some, Err}
 use Rattle.std.proofs.lemmas.List.{get_or-map, length-map}
 use Rattle.std.proofs.lemmas.List.Elements.{All-map, All-weaker}
 use Rattle.lan_bytes.specs.Placed.{Placed}
@@ -14,10 +14,10 @@ use Rattle.lan_file.specs.declared.tables.Tables.{Tables}
 use Rattle.lan_file.specs.declared.tail.Extent.{Extent}
 use Rattle.lan_file.specs.declared.tail.Footer.{Footer}
 use Rattle.lan_file.specs.Heads.{Pick, pick_of, picks_of, placed, column_at, tables_budget, head_budget, KeepsRegions, IsWhole, LiesRight, IsThere}
-use Rattle.lan_file.specs.HeadReasons.{IsAsked, HeadStandsIn, HeadBreaks}
+use Rattle.lan_file.specs.HeadReasons.{HeadBreaks}
 use Rattle.lan_file.specs.Opening.{IsOpened}
 use Rattle.lan_file.specs.Parts.{part, footer_of, extent_in, descriptor_of, InOrder, HasColumn}
-use Rattle.lan_file.specs.Tables.{IsTablesOf, AreTables, entry_in, column_in, descriptor_in, KeepsColumn, KeepsDescriptor, KeepsParts, HasParts, LacksColumn, JudgesTables}
+use Rattle.lan_file.specs.Tables.{IsTablesOf, AreTables, entry_in, column_in, descriptor_in, KeepsColumn, KeepsParts, HasParts, JudgesTables}
 use Rattle.lan_file.proofs.PartLemmas.{part-part, length-part}
 
 -- a fact of the bytes that are held

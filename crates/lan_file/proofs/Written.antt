@@ -1,13 +1,11 @@
 -- What is written of rows holds these rows.
 use Rattle.std.proofs.Common.{◌≡◌, refl, sym, ◌∙◌, ap, subst, ℕ, ◌+◌, ◌*◌, ◌-◌, ◌^◌, ◌<◌, ◌≤◌, List, [], ◌∷◌, ◌++◌, length, drop, replicate, arith, length-append, append_assoc, ◌%◌}
-use Rattle.std.specs.Prelude.{All, codes}
+use Rattle.std.specs.Prelude.{All}
 use Rattle.std.proofs.Math.Seq.{drop-append_seam}
-use Rattle.std.proofs.lemmas.Nat.{from_le_bytes-to_le_bytes_8}
 use Rattle.lan_model.specs.Plain.{PlainField, PlainValue}
 use Rattle.lan_model.specs.Table.{FitsRow}
 use Rattle.lan_file.specs.declared.tail.Footer.{Footer}
 use Rattle.lan_file.specs.declared.tail.Extent.{Extent}
-use Rattle.lan_file.specs.Numbers.{u16_bytes, u32_bytes, u64_bytes}
 use Rattle.lan_file.specs.Stage.{IsRequiredFixed}
 use Rattle.lan_file.specs.Stating.{StandAll}
 use Rattle.lan_file.specs.Texts.{page_bytes, column_text, descriptor_text}

@@ -1,5 +1,5 @@
 -- When bytes are a data file of so many rows, whose columns have these slots.
-use Rattle.std.specs.Prelude.{◌≡◌, ℕ, ◌^◌, ◌<◌, List, [], ◌∷◌, ◌++◌, Some, slice_get, All}
+use Rattle.std.specs.Prelude.{◌≡◌, ℕ, List, [], ◌∷◌, ◌++◌, Some, slice_get, All}
 use Rattle.lan_levels.specs.PlainSlots.{PlainSlot}
 use Rattle.lan_model.specs.Leaves.{PlainLeaf}
 use Rattle.lan_meta.specs.declared.page.BuiltPage.{BuiltPage}
@@ -7,7 +7,7 @@ use Rattle.lan_meta.specs.declared.page.PageMeta.{PageMeta}
 use Rattle.lan_meta.specs.PageKeeps.{KeepsRules}
 use Rattle.lan_meta.specs.PageOf.{IsPage, buffers_in}
 use Rattle.lan_meta.specs.PagesTold.{CanBeTold}
-use Rattle.lan_file.specs.FileText.{columns_behind}
+use Rattle.lan_file.specs.FileText.{page_behind, columns_behind}
 use Rattle.lan_file.specs.Heads.{Pick, rows_in, HasHead}
 
 -- the buffers of pages of a leaf stand for these slots, page by page
@@ -40,3 +40,20 @@ pub record IsWritten (rows : ℕ) (columns : List (List BuiltPage)) (pick : Pick
 abbrev pub AreWritten : ℕ → List (List BuiltPage) → List Pick → List (List PageMeta) → Type 0
 AreWritten rows columns [] found = found ≡ []
 AreWritten rows columns (pick ∷ picks) found = (first : List PageMeta) × (later : List (List PageMeta)) × (found ≡ first ∷ later) × IsWritten rows columns pick first × AreWritten rows columns picks later
+
+-- pages that are built stand for these slots of a leaf, page by page
+abbrev pub BuiltStand : PlainLeaf → List BuiltPage → List PlainSlot → Type 0
+BuiltStand leaf [] slots = slots ≡ []
+BuiltStand leaf (page ∷ pages) slots =
+    (first : List PlainSlot) × (later : List PlainSlot) × (slots ≡ first ++ later) × IsPage leaf (page_behind [] page) page.buffers first × BuiltStand leaf pages later
+
+-- the pages of the column that is asked stand for these slots
+pub record IsBuilt (columns : List (List BuiltPage)) (pick : Pick) (slots : List PlainSlot) : Type 0 where
+  pub pages : List BuiltPage
+  pub there : slice_get columns pick.column ≡ Some pages
+  pub stand : BuiltStand pick.leaf pages slots
+
+-- those of each column that is asked
+abbrev pub AreBuilt : List (List BuiltPage) → List Pick → List (List PlainSlot) → Type 0
+AreBuilt columns [] slots = slots ≡ []
+AreBuilt columns (pick ∷ picks) slots = (first : List PlainSlot) × (later : List (List PlainSlot)) × (slots ≡ first ∷ later) × IsBuilt columns pick first × AreBuilt columns picks later

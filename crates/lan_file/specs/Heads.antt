@@ -9,7 +9,6 @@ use Rattle.lan_store.specs.Budget.{Budget, range, plus}
 use Rattle.lan_file.specs.declared.head.ColumnPick.{ColumnPick}
 use Rattle.lan_file.specs.declared.head.FileHead.{FileHead}
 use Rattle.lan_file.specs.declared.tail.Extent.{Extent}
-use Rattle.lan_file.specs.declared.tail.Footer.{Footer}
 use Rattle.lan_file.specs.Descriptor.{StatesRows}
 use Rattle.lan_file.specs.Parts.{part, footer_of, extent_in, extent, descriptor_of, IsFile, InOrder, HasColumn}
 use Rattle.lan_file.specs.Reasons.{IsSmall}

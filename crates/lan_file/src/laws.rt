@@ -1,11 +1,18 @@
-//! What holds of data files, each law as the contract of a function with an empty body. A proof of another
-//! crate cites a law by its term in `proofs/LawTerms.antt`.
+//! What holds of data files, each law as the contract of a function with an empty body.
 
 ghost use Rattle.std.specs.Prelude.{◌≡◌, ℕ, ◌^◌, ◌<◌, ◌≤◌, List, [], ◌∷◌, length, All, Some};
-ghost use Rattle.lan_model.specs.Plain.{PlainField, PlainValue};
+ghost use Rattle.lan_levels.specs.PlainSlots.{PlainSlot};
+ghost use Rattle.lan_meta.specs.declared.page.BuiltPage.{BuiltPage};
+ghost use Rattle.lan_meta.specs.declared.page.PageMeta.{PageMeta};
+ghost use Rattle.lan_model.specs.Plain.{PlainField, PlainFields, PlainValue};
 ghost use Rattle.lan_model.specs.Table.{FitsRow};
 ghost use Rattle.lan_file.specs.declared.fault.FileReason.{FileReason};
+ghost use Rattle.lan_file.specs.declared.head_fault.HeadReason.{HeadReason};
+ghost use Rattle.lan_file.specs.FileOf.{IsFileOf, AreWritten, AreBuilt};
+ghost use Rattle.lan_file.specs.FileText.{file_text};
 ghost use Rattle.lan_file.specs.Files.{HoldsRows};
+ghost use Rattle.lan_file.specs.HeadReasons.{HeadStands};
+ghost use Rattle.lan_file.specs.Heads.{Pick, HasHead};
 ghost use Rattle.lan_file.specs.Reasons.{IsSmall, Stands};
 ghost use Rattle.lan_file.specs.Stage.{IsRequiredFixed};
 ghost use Rattle.lan_file.specs.Writing.{file_bytes};
@@ -23,6 +30,34 @@ pub fn files_hold_one_list()
 /// Where an object of at most 2^30 bytes holds as many rows as are asked, no reason stands.
 pub fn held_rows_have_no_reason()
     ensures { (fields : List (PlainField ℕ)) (bytes : List ℕ) (rows : List (List PlainValue)) (reason : FileReason) (place : ℕ) → HoldsRows fields bytes rows → IsSmall bytes → Stands fields (length rows) (Some bytes) reason place → ⊥ }
+{}
+
+/// What is written of columns whose pages keep to the rules, and have as many rows each as are told, has the
+/// head that gives just these pages, with the places of their buffers.
+pub fn written_heads_are_read()
+    ensures { (fields : PlainFields ℕ) (rows : ℕ) (columns : List (List BuiltPage)) (picks : List Pick) (found : List (List PageMeta)) → rows < 2 ^ 64 → length columns < 2 ^ 32 → length (file_text fields rows columns) < 2 ^ 64
+        → AreWritten rows columns picks found → HasHead picks (file_text fields rows columns) rows found }
+{}
+
+/// Where these pages stand for slots, it is a file of the slots.
+pub fn written_files_have_their_slots()
+    ensures { (fields : PlainFields ℕ) (rows : ℕ) (columns : List (List BuiltPage)) (picks : List Pick) (found : List (List PageMeta)) (slots : List (List PlainSlot)) → rows < 2 ^ 64 → length columns < 2 ^ 32 → length (file_text fields rows columns) < 2 ^ 64
+        → AreWritten rows columns picks found → AreBuilt columns picks slots → IsFileOf picks (file_text fields rows columns) rows slots }
+{}
+
+/// Bytes have one head.
+pub fn one_head()
+    ensures { (picks : List Pick) (bytes : List ℕ) (m n : ℕ) (cs ds : List (List PageMeta)) → HasHead picks bytes m cs → HasHead picks bytes n ds → (m ≡ n) × (cs ≡ ds) }
+{}
+
+/// Bytes are a file of one number of rows, and of one list of slots in each column that is asked.
+pub fn one_file()
+    ensures { (picks : List Pick) (bytes : List ℕ) (m n : ℕ) (xs ys : List (List PlainSlot)) → IsFileOf picks bytes m xs → IsFileOf picks bytes n ys → (m ≡ n) × (xs ≡ ys) }
+{}
+
+/// Where an object of at most 2^30 bytes has a head, no reason stands.
+pub fn heads_have_no_reason()
+    ensures { (picks : List Pick) (bytes : List ℕ) (rows : ℕ) (columns : List (List PageMeta)) (reason : HeadReason) (place : ℕ) → IsSmall bytes → HasHead picks bytes rows columns → HeadStands picks (Some bytes) reason place → ⊥ }
 {}
 
 /// What is written of rows has at least a byte for each.

@@ -10,7 +10,6 @@ use Rattle.lan_model.specs.declared.range.Range.{Range}
 use Rattle.lan_model.specs.declared.tree.Layer.{Layer}
 use Rattle.lan_model.specs.declared.tree.Layer.TheVariants as layer
 use Rattle.lan_model.specs.Leaves.{PlainLeaf}
-use Rattle.lan_model.specs.Plain.{PlainType}
 use Rattle.lan_levels.specs.Codes.{FitsCode, FitCodes}
 use Rattle.lan_levels.specs.declared.shape.ValueKind.{ValueKind}
 use Rattle.lan_levels.specs.declared.shape.ValueKind.TheVariants as stored
@@ -26,7 +25,7 @@ use Rattle.lan_meta.specs.declared.page.PageMeta.{PageMeta}
 use Rattle.lan_meta.specs.declared.reading.TheConstants.{COLUMN_METADATA}
 use Rattle.lan_meta.specs.Columns.{StandsForPage, ColumnOf}
 use Rattle.lan_meta.specs.PageKeeps.{KeepsRules}
-use Rattle.lan_meta.specs.PageRules.{FitLayers, FitValues, FitsZip, FitBits, slots_of, buffers_of, ranges_of, EndBefore, Obeys, meta_of}
+use Rattle.lan_meta.specs.PageRules.{FitLayers, FitValues, FitBits, slots_of, buffers_of, ranges_of, EndBefore}
 use Rattle.lan_meta.specs.PagesTold.{HasFewBits, StoresFewBits, CanBeTold}
 use Rattle.lan_meta.specs.Stage.{IsStaged}
 use Rattle.lan_meta.specs.Written.{page_written, page_texts, column_text}

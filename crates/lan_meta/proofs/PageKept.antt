@@ -1,5 +1,5 @@
 -- The pages of a column keep to the rules for its leaf.
-use Rattle.std.proofs.Common.{◌≡◌, ℕ, ◌+◌, ◌^◌, ◌≤◌, List, [], ◌∷◌, length, min, All, ap, subst, sym, ◌∙◌, arith, inl, inr}
+use Rattle.std.proofs.Common.{◌≡◌, ℕ, ◌+◌, ◌^◌, ◌≤◌, List, [], ◌∷◌, length, All, subst, sym, ◌∙◌, arith, inl, inr}
 use Rattle.std.specs.List.{zip}
 use Rattle.std.proofs.lemmas.List.{length-map}
 use Rattle.std.proofs.lemmas.List.Elements.{All-nil, All-cons, All-weaker}
@@ -15,7 +15,7 @@ use Rattle.lan_meta.specs.Columns.{StandsForPage, ColumnOf}
 use Rattle.lan_meta.specs.LayoutMessages.{SaysMini, SaysLayout}
 use Rattle.lan_meta.specs.PageKeeps.{KeepsRules}
 use Rattle.lan_meta.specs.PageMessages.{SaysPage}
-use Rattle.lan_meta.specs.PageRules.{ranges_of, meta_of}
+use Rattle.lan_meta.specs.PageRules.{ranges_of}
 use Rattle.lan_meta.specs.Stage.{IsStaged}
 use Rattle.lan_meta.proofs.OneColumn.{no_mini}
 

@@ -9,7 +9,6 @@ use Rattle.lan_levels.specs.ZipSlots.{starts}
 use Rattle.lan_levels.specs.ZipBuffers.{zip_buffers}
 use Rattle.lan_levels.specs.PagesWritten.{cut_pages, constant_of}
 use Rattle.lan_meta.specs.declared.page.BuiltPage.{BuiltPage}
-use Rattle.lan_meta.specs.declared.page.Layout.{Layout}
 use Rattle.lan_meta.specs.declared.page.Layout.TheVariants.{Constant, Zip}
 
 -- a page of these slots, with what it has for all of them, if there is such a value

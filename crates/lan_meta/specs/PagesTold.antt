@@ -1,5 +1,5 @@
 -- Pages whose numbers can be written.
-use Rattle.std.specs.Prelude.{ℕ, ◌^◌, ◌<◌, ⊤}
+use Rattle.std.specs.Prelude.{◌^◌, ◌<◌, ⊤}
 use Rattle.lan_levels.specs.declared.shape.ValueKind.{ValueKind}
 use Rattle.lan_levels.specs.declared.shape.ValueKind.TheVariants as stored
 use Rattle.lan_meta.specs.declared.page.Layout.{Layout}

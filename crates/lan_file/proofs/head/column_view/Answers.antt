@@ -1,6 +1,5 @@
-use Rattle.std.proofs.Common.{◌≡◌, ◌∙◌, ap, ◌-◌, take, drop}
+use Rattle.std.proofs.Common.{◌≡◌, ◌∙◌, ap, ◌-◌}
 use Rattle.lan_bytes.specs.Placed.{Placed, part_of}
-use Rattle.lan_file.specs.Tables.{column_in}
 use Rattle.lan_file.proofs.TablesRead.{view_there}
 use Rattle.lan_file.proofs.head.column_view.Goals as goal
 

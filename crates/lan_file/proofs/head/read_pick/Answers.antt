@@ -1,4 +1,4 @@
-use Rattle.std.proofs.Common.{sym, ap, subst, ℕ}
+use Rattle.std.proofs.Common.{subst}
 use Rattle.lan_bytes.specs.Placed.{Placed}
 use Rattle.lan_model.specs.Leaves.{plain_leaf}
 use Rattle.lan_meta.specs.Columns.{RefusesColumn}

@@ -1,18 +1,15 @@
-use Rattle.std.proofs.Common.{◌≡◌, sym, ◌∙◌, ap, subst, ℕ, ◌+◌, ◌≤◌, [], List, length, arith}
-use Rattle.std.specs.Prelude.{Option, None}
+use Rattle.std.proofs.Common.{◌≡◌, ◌∙◌, ◌+◌, ◌≤◌, [], length}
+use Rattle.std.specs.Prelude.{None}
 use Rattle.std.proofs.lemmas.Result.{err_from_is_err_and}
 use Rattle.lan_store.specs.Budget.{ranges}
-use Rattle.lan_store.specs.Looked.{Looked}
 use Rattle.lan_store.specs.Objects.{object}
-use Rattle.lan_store.specs.declared.name.Name.{Name}
 use Rattle.lan_file.specs.Heads.{picks_of, IsHeadOf, tables_budget}
-use Rattle.lan_file.specs.HeadReasons.{head_fault_failure}
 use Rattle.lan_file.specs.Parts.{part}
 use Rattle.lan_file.specs.Tables.{IsTablesOf}
 use Rattle.lan_file.proofs.Held.{one, both}
-use Rattle.lan_file.proofs.HeadHeld.{both_head_break, piece_breaks, survey_judged, looked_asks}
+use Rattle.lan_file.proofs.HeadHeld.{both_head_break, piece_breaks, looked_asks}
 use Rattle.lan_file.proofs.Picked.{descriptor_placed}
-use Rattle.lan_file.proofs.TablesRead.{held_is, survey_ok, survey_err, descriptor_within, head_within, tables_in_head}
+use Rattle.lan_file.proofs.TablesRead.{held_is, survey_err, descriptor_within, head_within}
 use Rattle.lan_file.proofs.head.FileHead.open.Goals as goal
 
 pub returns-in_err-tables-clause-answer : goal.returns-in_err-tables-clause-answer

@@ -1,8 +1,10 @@
-//! Tests of pages: the metadata of columns, and where rows lie in a page.
+//! Tests of pages and data files: the metadata of columns, where rows lie in a page, and whole files.
 #![tactic(auto)]
 
 #[cfg(test)]
 mod columns;
+#[cfg(test)]
+mod files;
 #[cfg(test)]
 mod messages;
 #[cfg(test)]

@@ -73,7 +73,7 @@ column_ends before (c ∷ cs) end (suc n) pages within is = column_ends (with_pa
 
 -- ---- the descriptor
 
-descriptor_back : (at rows : ℕ) (schema : PlainFields ℕ) → rows < 2 ^ 64 → length (descriptor_text schema rows) < 2 ^ 64 → StatesRows (record { base = at; bytes = descriptor_text schema rows }) rows
+pub descriptor_back : (at rows : ℕ) (schema : PlainFields ℕ) → rows < 2 ^ 64 → length (descriptor_text schema rows) < 2 ^ 64 → StatesRows (record { base = at; bytes = descriptor_text schema rows }) rows
 descriptor_back at rows schema few small =
     let written = descriptor_written schema rows in
     record {

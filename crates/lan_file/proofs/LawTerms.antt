@@ -5,3 +5,4 @@ pub use Rattle.lan_file.proofs.Written.{written_holds}
 pub use Rattle.lan_file.proofs.FileBack.{file_back}
 pub use Rattle.lan_file.proofs.FileStands.{file_stands, one_file}
 pub use Rattle.lan_file.proofs.HeadLaws.{one_head, no_head_reason}
+pub use Rattle.lan_file.proofs.PlainIsFile.{plain_file_is}

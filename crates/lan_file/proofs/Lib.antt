@@ -13,6 +13,7 @@ pub mod Opened
 pub mod Pages
 pub mod PartLemmas
 pub mod Picked
+pub mod PlainIsFile
 pub mod Plainly
 pub mod Rows
 pub mod Slots

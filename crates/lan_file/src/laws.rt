@@ -1,10 +1,12 @@
 //! What holds of data files, each law as the contract of a function with an empty body.
 
-ghost use Rattle.std.specs.Prelude.{◌≡◌, ℕ, ◌^◌, ◌<◌, ◌≤◌, List, [], ◌∷◌, length, All, Some};
+ghost use Rattle.std.specs.Prelude.{◌≡◌, ℕ, ◌^◌, ◌<◌, ◌≤◌, List, [], ◌∷◌, length, map, All, Some};
 ghost use Rattle.lan_levels.specs.PlainSlots.{PlainSlot};
+ghost use Rattle.lan_levels.specs.SlotsOf.{rows_slots};
 ghost use Rattle.lan_meta.specs.declared.page.BuiltPage.{BuiltPage};
 ghost use Rattle.lan_meta.specs.declared.page.PageMeta.{PageMeta};
-ghost use Rattle.lan_model.specs.Plain.{PlainField, PlainFields, PlainValue};
+ghost use Rattle.lan_model.specs.Leaves.{PlainLeaf, leaves_from};
+ghost use Rattle.lan_model.specs.Plain.{PlainField, PlainFields, PlainValue, fields_from, values_from};
 ghost use Rattle.lan_model.specs.Table.{FitsRow};
 ghost use Rattle.lan_file.specs.declared.fault.FileReason.{FileReason};
 ghost use Rattle.lan_file.specs.declared.head_fault.HeadReason.{HeadReason};
@@ -58,6 +60,12 @@ pub fn one_file()
 /// Where an object of at most 2^30 bytes has a head, no reason stands.
 pub fn heads_have_no_reason()
     ensures { (picks : List Pick) (bytes : List ℕ) (rows : ℕ) (columns : List (List PageMeta)) (reason : HeadReason) (place : ℕ) → IsSmall bytes → HasHead picks bytes rows columns → HeadStands picks (Some bytes) reason place → ⊥ }
+{}
+
+/// A file that holds rows in the narrow spelling is a file of the slots of these rows in its one leaf.
+pub fn narrow_files_are_files()
+    ensures { (f : PlainField ℕ) (leaf : PlainLeaf) (bytes : List ℕ) (rows : List (List PlainValue)) → IsRequiredFixed f → leaves_from (fields_from (f ∷ [])) 0 ≡ leaf ∷ [] → length bytes ≤ 2 ^ 63 → HoldsRows (f ∷ []) bytes rows
+        → IsFileOf (record { column = 0; leaf = leaf } ∷ []) bytes (length rows) (rows_slots leaf (map values_from rows) ∷ []) }
 {}
 
 /// What is written of rows has at least a byte for each.

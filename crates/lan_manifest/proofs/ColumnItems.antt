@@ -25,7 +25,7 @@ can_tell (primitive q) is = tt
 can_tell (vector q n) is = tt
 can_tell ty is = absurd is
 
-told : (f : PlainField ℕ) → IsColumn f → CanTell f
+pub told : (f : PlainField ℕ) → IsColumn f → CanTell f
 told (field id name false ty) is = (omega (arith, is.0), IsUtf8-from_is_utf8 name is.2, can_tell ty is.3)
 told (field id name true ty) is = absurd is
 

@@ -22,7 +22,7 @@ use Rattle.lan_manifest.proofs.WrittenItems.{number_items, number_first, number_
 ascii : (b : ℕ) → is_path_byte b ≡ true → b < 128
 ascii b is = grind (arith, nat_tests, is)
 
-path_is_text : (path : List ℕ) → IsPath path → IsTrue (is_utf8 path)
+pub path_is_text : (path : List ℕ) → IsPath path → IsTrue (is_utf8 path)
 path_is_text path is = is_utf8-from_IsUtf8 path (IsUtf8-from_ascii path (IsAscii-from_all path (λ k d below. ascii _ (is.bytes k d below))))
 
 -- what the message of a data file gives, wherever it lies

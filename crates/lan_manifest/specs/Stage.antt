@@ -1,5 +1,5 @@
 -- What of the manifests is read so far, each as a factor of the definition that it narrows.
-use Rattle.std.specs.Prelude.{◌≡◌, ℕ, List, [], ◌∷◌, IsNone, All, pos}
+use Rattle.std.specs.Prelude.{◌≡◌, ℕ, Bool, false, List, [], ◌∷◌, IsNone, All, pos}
 use Rattle.lan_model.specs.Plain.{PlainField}
 use Rattle.lan_manifest.specs.Columns.{IsColumn}
 use Rattle.lan_manifest.specs.Manifests.{PlainManifest, framed, manifest_text}
@@ -21,3 +21,7 @@ pub record IsWritten (bytes : List ℕ) (m : PlainManifest) : Type 0 where
   pub columns : IsOneColumn m.fields
   pub files : All IsOneFile m.fragments
   pub spelled : bytes ≡ framed (manifest_text m)
+
+-- deletion files: none of any type is read
+abbrev pub is_read_type : ℕ → Bool
+is_read_type kind = false

@@ -1,8 +1,11 @@
-//! Tests of the bytes of formats: numbers, messages of Protocol Buffers and of fields, and deletion files.
+//! Tests of the bytes of formats: numbers, messages of Protocol Buffers and of fields, manifests, and deletion
+//! files.
 #![tactic(auto)]
 
 #[cfg(test)]
 mod deletions;
+#[cfg(test)]
+mod manifests;
 #[cfg(test)]
 mod messages;
 #[cfg(test)]

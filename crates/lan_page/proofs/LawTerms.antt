@@ -1,0 +1,2 @@
+-- The laws' terms: what a proof of another crate cites of this one.
+pub use Rattle.lan_page.proofs.Refutes.{reasons_refute}

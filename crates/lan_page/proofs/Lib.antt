@@ -1,0 +1,9 @@
+pub mod ConstantPieces
+pub mod Fetched
+pub mod GivenIndex
+pub mod LawTerms
+pub mod PageLemmas
+pub mod Parts
+pub mod PlaceLemmas
+pub mod Refutes
+pub mod SlotLemmas

@@ -1,0 +1,7 @@
+pub mod Held
+pub mod Cuts
+pub mod Places
+pub mod Asking
+pub mod Walks
+pub mod Giving
+pub mod Laws

@@ -1,0 +1,8 @@
+//! What holds of pages in objects, each law as the contract of a function with an empty body.
+
+ghost use Rattle.lan_page.specs.Laws.{ReasonsRefute};
+
+/// A law of the definitions: where a reason stands in an object, it has no such page.
+pub fn reasons_refute()
+    ensures { ReasonsRefute }
+{}

@@ -1,6 +1,6 @@
 -- An accepted change: with its objects the stored ones agree with the dataset after it, and before its manifest with the one before it.
-use Rattle.std.proofs.Common.{◌≡◌, refl, sym, ◌∙◌, ap, subst, ℕ, zero, suc, ◌+◌, ◌-◌, ◌<◌, List, [], ◌∷◌, ◌++◌, length, take, map, arith, append-nil, true, false, Bool}
-use Rattle.std.specs.Prelude.{◌⊎◌, Option, Some, None, Ok, Err, IsSomeAnd, All, find, nat_eq, slice_get, option_map}
+use Rattle.std.proofs.Common.{◌≡◌, refl, sym, ◌∙◌, ap, subst, ℕ, zero, suc, ◌+◌, ◌<◌, List, [], ◌∷◌, ◌++◌, length, take, map, arith, append-nil, true}
+use Rattle.std.specs.Prelude.{Option, Some, None, Ok, IsSomeAnd, All, find, nat_eq, option_map}
 use Rattle.std.proofs.Common.{inl, inr}
 use Rattle.std.specs.Option.{ForSome, option_map_or}
 use Rattle.std.proofs.lemmas.Bool.{cases_Bool}
@@ -14,10 +14,10 @@ use Rattle.lan_store.specs.declared.name.Object.{Object}
 use Rattle.lan_manifest.specs.Manifests.{PlainManifest}
 use Rattle.lan_manifest.specs.Reads.{ManifestAt}
 use Rattle.lan_manifest.specs.Stage.{IsOneColumn}
-use Rattle.lan_manifest.specs.Versions.{IsNewest, NoneListed}
+use Rattle.lan_manifest.specs.Versions.{IsNewest}
 use Rattle.lan_read.specs.Newest.{IsNewestOf, NewestManifest}
 use Rattle.lan_read.specs.Standing.{StandsAt, Agrees}
-use Rattle.lan_read.proofs.Newest.{newest_last}
+use Rattle.lan_read.proofs.LawTerms.{last_is}
 use Rattle.lan_commit.specs.Changes.{Base, numbered_from, puts_of, limit_of, IsBase, IsSound}
 use Rattle.lan_commit.specs.First.{first_object, first_limit}
 use Rattle.lan_commit.specs.Puts.{append_puts, limit_of_append}
@@ -62,7 +62,7 @@ table_stands old (p ∷ ps) version t each found = elim (cases_Bool (nat_eq p.0 
 
 -- the newest of the dataset is the newest of the objects
 is_newest : (old : List Object) (d : Dataset) (found : Option ℕ) → Agrees old d → newest d ≡ found → IsNewestOf old found
-is_newest old d found agrees is = subst (IsNewestOf old) is (newest_last old d.listed (newest d) agrees.listed refl)
+is_newest old d found agrees is = subst (IsNewestOf old) is (last_is old d.listed agrees.listed)
 
 create_stands : (old : List Object) (d later : Dataset) (columns : List Column) (found : Option ℕ) → newest d ≡ found → AreColumns columns → IsOneColumn (numbered_from 0 columns) → Agrees old d → Some (created d columns found) ≡ Some (Ok later) → first_limit (numbered_from 0 columns) ≡ None
     → Agrees (old ++ first_object (numbered_from 0 columns) ∷ []) later

@@ -1,32 +1,25 @@
 -- After an append that reaches no limit the objects agree with the dataset with its version more.
-use Rattle.std.proofs.Common.{◌≡◌, refl, sym, ap, subst, ℕ, ◌+◌, ◌^◌, ◌≤◌, ◌<◌, ◌-◌, ◌*◌, ◌%◌, false, List, [], ◌∷◌, ◌++◌, length, replicate, arith, append-nil, length-append}
+use Rattle.std.proofs.Common.{◌≡◌, refl, sym, ap, subst, ℕ, ◌+◌, ◌^◌, ◌≤◌, ◌<◌, List, [], ◌∷◌, ◌++◌, length, arith, append-nil}
 use Rattle.std.specs.Prelude.{None, All}
-use Rattle.std.proofs.Math.Nat.{le-mul_of_pos_right}
 use Rattle.lan_model.specs.Dataset.{Dataset, with_version}
-use Rattle.lan_model.specs.Plain.{PlainField, field, PlainValue}
+use Rattle.lan_model.specs.Plain.{PlainField, PlainValue}
 use Rattle.lan_model.specs.Table.{Table, FitsRow}
 use Rattle.lan_store.specs.declared.name.Object.{Object}
 use Rattle.lan_store.specs.Objects.{object}
 use Rattle.lan_file.specs.Files.{HoldsRows}
 use Rattle.lan_file.specs.Stage.{IsRequiredFixed}
-use Rattle.lan_file.specs.Texts.{page_bytes, column_text, descriptor_text}
-use Rattle.lan_file.specs.Writing.{entry_text, footer_text, file_from, file_bytes}
-use Rattle.lan_file.specs.Widths.{type_size, column_size}
-use Rattle.lan_file.proofs.Pages.{length-page_bytes}
-use Rattle.lan_file.proofs.Values.{some_size}
-use Rattle.lan_file.proofs.Written.{written_holds}
+use Rattle.lan_file.specs.Writing.{file_bytes}
+use Rattle.lan_file.proofs.LawTerms.{rows_have_bytes, written_holds}
 use Rattle.lan_fresh.specs.Fresh.{fresh_file}
-use Rattle.lan_fresh.proofs.Files.{fresh_is_free}
-use Rattle.lan_fresh.proofs.PathRules.{path_is_path}
+use Rattle.lan_fresh.proofs.LawTerms.{fresh_is_free, path_is_path}
 use Rattle.lan_manifest.specs.Manifests.{PlainManifest, manifest_object, manifest_text, framed}
 use Rattle.lan_manifest.specs.Reads.{IsManifest, ManifestAt}
 use Rattle.lan_manifest.specs.Versions.{IsVersion, IsNewest, manifest_name}
 use Rattle.lan_read.specs.Standing.{StandsAt, RowsOf, Agrees}
-use Rattle.lan_read.proofs.Monotone.{rows_more, held_last}
-use Rattle.lan_read.proofs.OneTable.{one_column, manifest_one}
+use Rattle.lan_read.proofs.LawTerms.{one_column, manifest_one, rows_more}
 use Rattle.lan_commit.specs.Limits.{bytes_limit}
 use Rattle.lan_commit.specs.Puts.{next_version, append_puts, limit_of_append}
-use Rattle.lan_commit.proofs.Appended.{none_from, small_objects, append_agrees, adds_alone}
+use Rattle.lan_commit.proofs.Appended.{held_last, none_from, small_objects, append_agrees, adds_alone}
 use Rattle.lan_commit.proofs.GreatestIds.{known_below}
 use Rattle.lan_commit.proofs.NextManifest.{next_rules}
 use Rattle.lan_commit.proofs.NextVersion.{next_agrees}
@@ -70,34 +63,11 @@ version_agrees old d version t stands agrees newest is_next small =
     (λ w listed. adds_alone old (manifest_object (next_version stands.manifest)) (version + 1) w (ap (λ w. manifest_name (w + 1)) (sym same)) is_next listed) is_next
     (subst (λ w. StandsAt (old ++ append_puts old stands.manifest []) (w + 1) (record t { rows = t.rows ++ [] })) (sym same) stands_now)
 
--- a file begins with its page
-page_first : (page column descriptor : List ℕ) → length page ≤ length (file_from page column descriptor)
-page_first page column descriptor =
-    let zeros : List ℕ = replicate ((64 - length page % 64) % 64) 0 in
-    let front : List ℕ = (page ++ zeros) ++ descriptor in
-    let entries : List ℕ = entry_text (length front) (length column) ++ (entry_text (length (page ++ zeros)) (length descriptor) ++ footer_text (length front) (length front + length column)) in
-    omega (arith, length-append front (column ++ entries), length-append (page ++ zeros) descriptor, length-append page zeros)
-
--- a row takes some bytes
-row_each : (f : PlainField ℕ) (n : ℕ) → IsRequiredFixed f → n ≤ column_size (f ∷ []) * n
-row_each (field id name false ty) n is =
-    let below : n ≤ n * type_size ty = le-mul_of_pos_right n (some_size ty is) in
-    omega (arith, below)
-row_each f n is = absurd is
-
--- so a file that isn't too long has few rows
-few_rows : (f : PlainField ℕ) (rows : List (List PlainValue)) → IsRequiredFixed f → All (FitsRow (f ∷ [])) rows → length (file_bytes (f ∷ []) rows) ≤ 2 ^ 30 → length rows < 2 ^ 31
-unfolding file_bytes
-few_rows f rows is fit small =
-    let page = page_first (page_bytes (f ∷ []) rows) (column_text (f ∷ []) (length rows)) (descriptor_text (f ∷ []) (length rows)) in
-    let size = length-page_bytes f rows is fit in
-    omega (arith, page, size, row_each f (length rows) is, small)
-
 -- what is written of some rows of the one column holds them
 rows_held : (fields : List (PlainField ℕ)) (f : PlainField ℕ) (row : List PlainValue) (rows : List (List PlainValue)) → fields ≡ f ∷ [] → IsRequiredFixed f → All (FitsRow fields) (row ∷ rows)
     → length (file_bytes fields (row ∷ rows)) ≤ 2 ^ 30 → (length (row ∷ rows) < 2 ^ 31) × HoldsRows fields (file_bytes fields (row ∷ rows)) (row ∷ rows)
 rows_held fields f row rows are is = subst (λ (l : List (PlainField ℕ)). All (FitsRow l) (row ∷ rows) → length (file_bytes l (row ∷ rows)) ≤ 2 ^ 30 → (length (row ∷ rows) < 2 ^ 31) × HoldsRows l (file_bytes l (row ∷ rows)) (row ∷ rows)) (sym are)
-    (λ fit small. (few_rows f (row ∷ rows) is fit small, written_holds f (row ∷ rows) is (omega arith) fit (omega (arith, small))))
+    (λ fit small. (omega (arith, rows_have_bytes f (row ∷ rows) is fit, small), written_holds f (row ∷ rows) is (omega arith) fit (omega (arith, small))))
 
 -- of the manifest that the version stands by
 of_its_own : (old : List Object) (d : Dataset) (version : ℕ) (t : Table) (stands : StandsAt old version t) (rows : List (List PlainValue)) → Agrees old d → IsNewest old version

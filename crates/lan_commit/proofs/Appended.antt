@@ -2,7 +2,7 @@
 use Rattle.std.proofs.Common.{◌≡◌, inl, inr, refl, sym, ◌∙◌, ap, subst, ℕ, zero, suc, ◌+◌, ◌^◌, ◌≤◌, List, [], ◌∷◌, ◌++◌, length, arith, append_assoc, append-nil, true, false}
 use Rattle.std.specs.Prelude.{Option, Some, None, IsSome, All, ◌⊎◌, nat_lt}
 use Rattle.std.specs.List.{list_any}
-use Rattle.std.proofs.lemmas.Bool.{cases_Bool, or_parts}
+use Rattle.std.proofs.lemmas.Bool.{or_parts}
 use Rattle.std.proofs.lemmas.Bool.Decides.{nat_tests}
 use Rattle.lan_model.specs.Dataset.{Dataset, with_version}
 use Rattle.lan_model.specs.Plain.{PlainField, PlainValue}
@@ -11,9 +11,9 @@ use Rattle.lan_model.specs.After.{without}
 use Rattle.lan_store.specs.declared.name.Dir.TheVariants.{Versions}
 use Rattle.lan_store.specs.declared.name.Name.{Name}
 use Rattle.lan_store.specs.declared.name.Object.{Object}
-use Rattle.lan_store.specs.Names.{same_dir, same_name}
+use Rattle.lan_store.specs.Names.{same_dir}
 use Rattle.lan_store.specs.Objects.{object}
-use Rattle.lan_store.proofs.Held.{same_name_itself}
+use Rattle.lan_store.proofs.LawTerms.{held_behind, held_either, first_held, not_first}
 use Rattle.lan_file.specs.Files.{HoldsRows}
 use Rattle.lan_file.specs.Writing.{file_bytes}
 use Rattle.lan_fresh.specs.Fresh.{fresh_file, file_path}
@@ -26,8 +26,8 @@ use Rattle.lan_manifest.specs.Reads.{IsManifest}
 use Rattle.lan_manifest.specs.Stage.{IsOneFile}
 use Rattle.lan_read.specs.Standing.{FileGives, FragmentRows, RowsOf, StandsAt, Agrees, data_name}
 use Rattle.lan_manifest.specs.Versions.{IsVersion, IsListed, IsNewest, manifest_name}
-use Rattle.lan_manifest.proofs.Listing.{manifest_name_injective}
-use Rattle.lan_read.proofs.Monotone.{rows_more, held_either}
+use Rattle.lan_manifest.proofs.LawTerms.{manifest_name_injective}
+use Rattle.lan_read.proofs.LawTerms.{rows_more}
 use Rattle.lan_commit.proofs.NextVersion.{all_behind, next_agrees}
 use Rattle.lan_commit.proofs.NoLimit.{not_reached}
 
@@ -59,22 +59,13 @@ new_rows objects fields f file bytes rows one none count fit held size holds = r
   only zero d below = record { bytes = bytes; held = held; size = size; holds = holds }
   only (suc k) d below = absurd (omega (arith, below))
 
--- an object that wasn't held is what the new ones have
-pub held_behind : (objects more : List Object) (name : Name) → object objects name ≡ None → object (objects ++ more) name ≡ object more name
-unfolding object
-held_behind [] more name none = refl
-held_behind (o ∷ os) more name none = elim (cases_Bool (same_name o.name name)) [
-  | inl same ↦ absurd (cc (rw same at none))
-  | inr other ↦ rw other (held_behind os more name (rw other at none))
-]
+-- the last object, where none of its name was held
+pub held_last : (objects : List Object) (o : Object) → object objects o.name ≡ None → object (objects ++ o ∷ []) o.name ≡ Some o.bytes
+held_last objects o none = held_behind objects (o ∷ []) o.name none ∙ first_held o []
 
-first_of_two : (a b : Object) → object (a ∷ b ∷ []) a.name ≡ Some a.bytes
-unfolding object
-first_of_two a b = rw (same_name_itself a.name) refl
-
-second_of_two : (a b : Object) → same_name a.name b.name ≡ false → object (a ∷ b ∷ []) b.name ≡ Some b.bytes
-unfolding object
-second_of_two a b other = rw (other, same_name_itself b.name) refl
+-- no data file has the name of a manifest
+no_manifest : (path : List ℕ) (version : ℕ) → data_name path ≡ manifest_name version → ⊥
+no_manifest path version is = let dirs : false ≡ true = ap (λ (n : Name). same_dir n.dir Versions) is in cc dirs
 
 not_any : (os : List Object) → list_any (λ o. nat_lt (2 ^ 30) (length o.bytes)) os ≡ false → All (λ o. length o.bytes ≤ 2 ^ 30) os
 not_any [] none k d below = absurd (omega (arith, below))
@@ -96,7 +87,7 @@ append_stands old version t stands row rows fit is_next fresh next rules holds s
   reads = record {
     is_version = is_next;
     bytes = framed (manifest_text later);
-    held = held_behind old both (manifest_name (stands.manifest.version + 1)) next ∙ second_of_two file (manifest_object later) refl;
+    held = held_behind old both (manifest_name (stands.manifest.version + 1)) next ∙ not_first file (manifest_object later ∷ []) (manifest_name (stands.manifest.version + 1)) (no_manifest (file_path (fresh_file old)) (stands.manifest.version + 1)) ∙ first_held (manifest_object later) [];
     size = small_objects both small 1 file (omega arith);
     reads = record {
       numbered = refl;
@@ -110,7 +101,7 @@ append_stands old version t stands row rows fit is_next fresh next rules holds s
   };
   columns = stands.columns;
   rows = rows_behind (old ++ both) stands.manifest.fields stands.manifest.fragments fragment t.rows (row ∷ rows) (rows_more old both stands.manifest.fields stands.manifest.fragments t.rows stands.rows)
-      (new_rows (old ++ both) stands.manifest.fields fragment _ file.bytes (row ∷ rows) refl refl refl fit (held_behind old both file.name fresh ∙ first_of_two file (manifest_object later)) (small_objects both small 0 file (omega arith)) holds);
+      (new_rows (old ++ both) stands.manifest.fields fragment _ file.bytes (row ∷ rows) refl refl refl fit (held_behind old both file.name fresh ∙ first_held file (manifest_object later ∷ [])) (small_objects both small 0 file (omega arith)) holds);
 } where
   both : List Object
   both = append_puts old stands.manifest (row ∷ rows)

@@ -7,7 +7,7 @@ use Rattle.lan_manifest.specs.Manifests.{PlainManifest, manifest_object}
 use Rattle.lan_manifest.specs.Stage.{IsOneColumn}
 use Rattle.lan_model.specs.Plain.{PlainField, PlainValue, plain_field}
 use Rattle.lan_model.specs.declared.tree.Field.{Field}
-use Rattle.lan_read.proofs.OneTable.{one_column}
+use Rattle.lan_read.proofs.LawTerms.{one_column}
 use Rattle.lan_store.specs.declared.name.Object.{Object}
 use Rattle.lan_commit.specs.Puts.{file_object, next_with, file_and_manifest}
 

@@ -1,20 +1,21 @@
 -- The first manifest stands for the table without rows.
-use Rattle.std.proofs.Common.{◌≡◌, inl, inr, refl, ℕ, zero, suc, ◌<◌, ◌≤◌, List, [], ◌∷◌, ◌++◌, length, arith, lit<}
+use Rattle.std.proofs.Common.{◌≡◌, inl, inr, refl, ℕ, zero, suc, List, [], ◌∷◌, ◌++◌, arith, lit<}
 use Rattle.std.specs.Prelude.{Option, Some, None, IsSome, All, map}
 use Rattle.lan_model.specs.Plain.{PlainField, unnumbered}
 use Rattle.lan_model.specs.Dataset.{Dataset, with_version}
 use Rattle.lan_model.specs.Table.{Table, AreColumns}
 use Rattle.lan_store.specs.declared.name.Object.{Object}
 use Rattle.lan_store.specs.Objects.{object}
+use Rattle.lan_store.proofs.LawTerms.{held_either}
 use Rattle.lan_manifest.specs.Manifests.{manifest_text, framed}
 use Rattle.lan_commit.specs.First.{no_rows, first_manifest, first_object, first_limit}
 use Rattle.lan_manifest.specs.Reads.{IsManifest}
 use Rattle.lan_manifest.specs.Stage.{IsOneColumn, IsWritten}
 use Rattle.lan_read.specs.Standing.{StandsAt, Agrees}
 use Rattle.lan_manifest.specs.Versions.{IsVersion, IsListed, AreListed, NoneListed, manifest_name}
-use Rattle.lan_commit.proofs.Appended.{small_objects}
-use Rattle.lan_manifest.proofs.Listing.{manifest_name_injective}
-use Rattle.lan_read.proofs.Monotone.{held_last, held_either, stands_more}
+use Rattle.lan_commit.proofs.Appended.{held_last, small_objects}
+use Rattle.lan_manifest.proofs.LawTerms.{manifest_name_injective}
+use Rattle.lan_read.proofs.LawTerms.{stands_more, none_is}
 
 first_rules : (fields : List (PlainField ℕ)) → AreColumns (map unnumbered fields) → IsManifest (first_manifest fields)
 first_rules fields columns = record {
@@ -72,14 +73,10 @@ first_listed old fields none = record {
   only zero d below = (is_version_one, rw (held_last old (first_object fields) (none_held old none)) refl)
   only (suc k) d below = absurd (omega arith)
 
-pub none_listed : (old : List Object) (versions : List ℕ) → AreListed old versions → NoneListed old → versions ≡ []
-none_listed old [] listed none = refl
-none_listed old (v ∷ vs) listed none = absurd (none v (listed.only 0 v (omega arith)))
-
 -- the objects with the first manifest more agree with the dataset with its table more
 pub first_agrees : (old : List Object) (d : Dataset) (fields : List (PlainField ℕ)) → IsOneColumn fields → AreColumns (map unnumbered fields) → first_limit fields ≡ None → NoneListed old → Agrees old d → Agrees (old ++ first_object fields ∷ []) (with_version d 1 (no_rows fields))
 first_agrees old d fields column columns short none agrees = record {
-  listed = rw (none_listed old d.listed agrees.listed none) (first_listed old fields none);
+  listed = rw (none_is old d.listed agrees.listed none) (first_listed old fields none);
   stands = all d.stands agrees.stands;
 } where
   first : StandsAt (old ++ first_object fields ∷ []) 1 (no_rows fields)

@@ -1,5 +1,5 @@
 -- The greatest fragment id, fragment by fragment, and of a fresh one.
-use Rattle.std.proofs.Common.{◌≡◌, refl, sym, ◌∙◌, ap, subst, ℕ, zero, suc, ◌+◌, ◌^◌, ◌<◌, ◌≤◌, max, List, [], ◌∷◌, ◌++◌, map, drop, drop-cons, add-one, length, get_or, arith, append-nil}
+use Rattle.std.proofs.Common.{◌≡◌, refl, sym, ◌∙◌, ap, subst, ℕ, zero, suc, ◌+◌, ◌^◌, ◌<◌, ◌≤◌, max, List, [], ◌∷◌, map, drop, drop-cons, add-one, length, get_or, arith, append-nil}
 use Rattle.std.specs.Prelude.{Option, Some, None, IfSome, All, unwrap_or}
 use Rattle.std.proofs.lemmas.List.{drop_all}
 use Rattle.lan_fresh.specs.Fresh.{greatest_of, above, with_greatest, fresh_fragment}

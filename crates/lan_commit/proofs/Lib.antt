@@ -6,6 +6,7 @@ pub mod Columns
 pub mod Created
 pub mod FirstTable
 pub mod GreatestIds
+pub mod LawTerms
 pub mod NeverHeld
 pub mod NextManifest
 pub mod NextVersion

@@ -8,12 +8,12 @@ use Rattle.lan_store.specs.declared.name.Object.{Object}
 use Rattle.lan_store.specs.Names.{same_dir}
 use Rattle.lan_store.specs.Objects.{object}
 use Rattle.lan_store.specs.PutsAll.{IsHeldAt}
+use Rattle.lan_store.proofs.LawTerms.{held_either}
 use Rattle.lan_fresh.specs.Fresh.{fresh_file, file_path}
-use Rattle.lan_fresh.proofs.Files.{fresh_is_free}
+use Rattle.lan_fresh.proofs.LawTerms.{fresh_is_free}
 use Rattle.lan_manifest.specs.Manifests.{PlainManifest}
 use Rattle.lan_manifest.specs.Versions.{IsNewest, manifest_name}
 use Rattle.lan_read.specs.Standing.{data_name}
-use Rattle.lan_read.proofs.Monotone.{held_either}
 use Rattle.lan_commit.specs.Limits.{bytes_limit}
 use Rattle.lan_commit.specs.Puts.{file_object, append_puts, limit_of_append}
 use Rattle.lan_commit.proofs.NoLimit.{no_version_limit, no_limit_reached}

@@ -7,9 +7,10 @@ use Rattle.lan_model.specs.Dataset.{Dataset, with_version}
 use Rattle.lan_model.specs.Table.{Table}
 use Rattle.lan_store.specs.declared.name.Object.{Object}
 use Rattle.lan_store.specs.Objects.{object}
+use Rattle.lan_store.proofs.LawTerms.{held_more}
 use Rattle.lan_read.specs.Standing.{StandsAt, Agrees}
 use Rattle.lan_manifest.specs.Versions.{IsVersion, IsListed, IsNewest, manifest_name}
-use Rattle.lan_read.proofs.Monotone.{held_more, stands_more}
+use Rattle.lan_read.proofs.LawTerms.{stands_more}
 
 some_is : (o : Option (List ℕ)) → IsSome o → (bytes : List ℕ) × (o ≡ Some bytes)
 some_is None some = absurd (cc some)

@@ -6,11 +6,12 @@ use Rattle.lan_store.specs.declared.name.Dir.TheVariants.{Versions}
 use Rattle.lan_store.specs.declared.name.Name.{Name}
 use Rattle.lan_store.specs.declared.name.Object.{Object}
 use Rattle.lan_store.specs.Names.{same_dir}
+use Rattle.lan_store.proofs.LawTerms.{held_either}
 use Rattle.lan_fresh.specs.Fresh.{fresh_file}
 use Rattle.lan_manifest.specs.Manifests.{PlainManifest}
 use Rattle.lan_manifest.specs.Versions.{manifest_name}
 use Rattle.lan_read.specs.Standing.{Agrees}
-use Rattle.lan_read.proofs.Monotone.{held_either, stands_more}
+use Rattle.lan_read.proofs.LawTerms.{stands_more}
 use Rattle.lan_commit.specs.Puts.{file_object, append_puts}
 use Rattle.lan_commit.proofs.NextVersion.{listed_more}
 

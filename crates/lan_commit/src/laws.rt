@@ -1,4 +1,5 @@
-//! What holds of the changes of a dataset, each law as the contract of a function with an empty body.
+//! What holds of the changes of a dataset, each law as the contract of a function with an empty body. A proof
+//! of another crate cites a law by its term in `proofs/LawTerms.antt`.
 
 ghost use Rattle.std.specs.Prelude.{◌≡◌, ◌<◌, ◌∷◌, ◌++◌, [], ℕ, List, Some, None, Ok, length, take};
 ghost use Rattle.lan_model.specs.After.{Command, after};

@@ -5,6 +5,7 @@ pub mod Depths
 pub mod Few
 pub mod Formed
 pub mod JsonText
+pub mod LawTerms
 pub mod Limited
 pub mod Lists
 pub mod ReadBack

@@ -4,7 +4,7 @@ use Rattle.json.specs.Json as json
 use Rattle.json.specs.Tree.{json_tokens}
 use Rattle.json.specs.Print.{print}
 use Rattle.std.specs.Prelude.{codes}
-use Rattle.lan_model.specs.Plain.{PlainType, primitive, vector, text, bytes, list, struct, PlainField, field, PlainFields, no_fields, one_field, fields_from, unnumbered, all_unnumbered}
+use Rattle.lan_model.specs.Plain.{primitive, vector, text, bytes, list, struct, PlainField, field, PlainFields, no_fields, one_field, fields_from, unnumbered, all_unnumbered}
 use Rattle.lan_form.specs.Printed.{label_members, field_json, fields_json, json_of}
 
 mutual

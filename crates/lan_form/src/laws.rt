@@ -1,4 +1,5 @@
-//! What holds of the JSON form of schemas.
+//! What holds of the JSON form of schemas, each law as the contract of a function with an empty body. A proof
+//! of another crate cites a law by its term in `proofs/LawTerms.antt`.
 ghost use Rattle.std.specs.Prelude.{ℕ, List};
 ghost use Rattle.lan_model.specs.Plain.{PlainField};
 ghost use Rattle.lan_form.specs.Laws.{IsReadBack, TellsNoNumbers};

@@ -1,18 +1,17 @@
 -- The rows of fragments one after another, and how far their lines went.
-use Rattle.std.proofs.Common.{◌≡◌, inl, inr, refl, sym, ◌∙◌, ap, subst, ℕ, zero, suc, ◌+◌, ◌<◌, ◌≤◌, List, [], ◌∷◌, ◌++◌, get_or, take, arith, append_assoc, length, length-append}
-use Rattle.std.specs.Prelude.{Option, Some, None, Result, Ok, Err, All, slice_get, flat_map}
+use Rattle.std.proofs.Common.{◌≡◌, inl, inr, refl, sym, ◌∙◌, ap, subst, ℕ, ◌+◌, ◌<◌, ◌≤◌, List, [], ◌∷◌, ◌++◌, get_or, take, arith, append_assoc, length, length-append}
+use Rattle.std.specs.Prelude.{Option, Some, None, Err, slice_get, flat_map}
 use Rattle.std.proofs.lemmas.List.{append-nil, take_more}
 use Rattle.std.proofs.Math.Seq.{take-append_seam}
-use Rattle.lan_model.specs.Plain.{PlainField, PlainValue}
-use Rattle.lan_model.specs.Table.{FitsRow}
+use Rattle.lan_model.specs.Plain.{PlainField}
 use Rattle.lan_store.specs.Streams.{and_then_bytes}
 use Rattle.lan_store.specs.declared.name.Object.{Object}
 use Rattle.lan_manifest.specs.Manifests.{PlainManifest}
 use Rattle.lan_manifest.specs.declared.manifest.Fragment.{Fragment}
 use Rattle.lan_read.specs.Standing.{FragmentRows, RowsOf}
-use Rattle.lan_scan.specs.Printing.{SendsRows, SendsFragment, CutsFragment, PrintsFragment, PrintsAll}
+use Rattle.lan_scan.specs.Printing.{SendsRows, SendsFragment, PrintsFragment, PrintsAll}
 use Rattle.lan_scan.specs.Scans.{AreFront, GotRows, GotBytes}
-use Rattle.lan_scan.specs.Sending.{GotPart, Sends, Waits, Passes}
+use Rattle.lan_scan.specs.Sending.{GotPart, Sends, Waits}
 use Rattle.lan_scan.specs.declared.scanning.ScanFault.{ScanFault}
 use Rattle.lan_scan.specs.declared.scanning.ScanFault.TheVariants.{Outside, Store, Write, Memory}
 use Rattle.lan_scan.proofs.Lines.{Row, and_then_bytes-nil, sends_then, got_after}

@@ -1,27 +1,20 @@
 -- Where the fragments have rows, what the sink got is a front of their lines.
-use Rattle.std.proofs.Common.{◌≡◌, refl, sym, ◌∙◌, ap, subst, ℕ, zero, suc, ◌<◌, ◌≤◌, List, [], ◌∷◌, ◌++◌, take, drop, arith, append_assoc, length, length-append}
-use Rattle.std.specs.Prelude.{Option, Some, None, All, slice_get, flat_map}
+use Rattle.std.proofs.Common.{◌≡◌, refl, sym, ◌∙◌, ap, subst, ℕ, zero, suc, List, [], ◌∷◌, ◌++◌, take, drop, arith, append_assoc, length}
+use Rattle.std.specs.Prelude.{Option, All, slice_get, flat_map}
 use Rattle.std.proofs.lemmas.Grind.{flat_map-append}
-use Rattle.std.proofs.lemmas.List.{append-nil, take-append-drop}
+use Rattle.std.proofs.lemmas.List.{take-append-drop}
 use Rattle.std.proofs.lemmas.List.Elements.{All-take}
-use Rattle.std.proofs.Math.Seq.{take-append_seam}
 use Rattle.lan_model.specs.Plain.{PlainField}
 use Rattle.lan_store.specs.Streams.{and_then_bytes}
 use Rattle.lan_store.specs.declared.name.Object.{Object}
 use Rattle.lan_manifest.specs.Manifests.{PlainManifest}
 use Rattle.lan_manifest.specs.Stage.{IsOneColumn, IsOneFile}
 use Rattle.lan_manifest.specs.declared.manifest.Fragment.{Fragment}
-use Rattle.lan_read.specs.Standing.{FragmentRows, RowsOf}
-use Rattle.lan_read.proofs.OneTable.{one_column, rows_one}
+use Rattle.lan_read.specs.Standing.{RowsOf}
+use Rattle.lan_read.proofs.LawTerms.{one_rows}
 use Rattle.lan_scan.specs.Scans.{AreFront, GotRows, GotBytes}
 use Rattle.lan_scan.specs.Sending.{GotPart}
 use Rattle.lan_scan.proofs.Lines.{Row, got_more}
-
--- fragments have one list of rows
-one_rows : (objects : List Object) (fields : List (PlainField ℕ)) (fs : List Fragment) (xs ys : List Row) → IsOneColumn fields → All IsOneFile fs → RowsOf objects fields fs xs → RowsOf objects fields fs ys → xs ≡ ys
-one_rows objects fields fs xs ys columns files a b =
-    let column = one_column fields columns in
-    rows_one objects column.0 fs xs ys column.2 files (subst (λ l. RowsOf objects l fs xs) column.1 a) (subst (λ l. RowsOf objects l fs ys) column.1 b)
 
 -- the rows of the first fragments, and those of the others
 rows_split : (objects : List Object) (fields : List (PlainField ℕ)) (fs gs : List Fragment) (rows : List Row) → RowsOf objects fields (fs ++ gs) rows → (before : List Row) × (behind : List Row) × RowsOf objects fields fs before × RowsOf objects fields gs behind × (rows ≡ before ++ behind)

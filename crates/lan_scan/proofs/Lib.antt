@@ -1,4 +1,5 @@
 pub mod Fragments
 pub mod Fronts
+pub mod LawTerms
 pub mod Lines
 pub mod Tables

@@ -5,7 +5,7 @@ use Rattle.std.proofs.lemmas.Grind.{flat_map-append}
 use Rattle.std.proofs.lemmas.List.{append-nil, map-append, map_more, take-append-drop, take_all}
 use Rattle.lan_model.specs.Plain.{PlainValue}
 use Rattle.lan_store.specs.Streams.{and_then_bytes}
-use Rattle.lan_store.proofs.Told.{and_then_bytes-twice}
+use Rattle.lan_store.proofs.LawTerms.{and_then_bytes-twice}
 use Rattle.lan_scan.specs.Sending.{GotPart, Sends, Waits, Passes}
 use Rattle.lan_scan.specs.declared.sending.SendFault.{SendFault}
 use Rattle.lan_scan.specs.declared.sending.SendFault.TheVariants.{Write, Memory}

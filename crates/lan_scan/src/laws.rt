@@ -1,5 +1,5 @@
 //! What the lines are that a sink got before a scan stopped, each law as the contract of a function with
-//! an empty body.
+//! an empty body. A proof of another crate cites a law by its term in `proofs/LawTerms.antt`.
 ghost use Rattle.std.specs.Prelude.{ℕ, List, All, Option, flat_map};
 ghost use Rattle.lan_model.specs.Plain.{PlainValue};
 ghost use Rattle.lan_store.specs.declared.name.Object.{Object};

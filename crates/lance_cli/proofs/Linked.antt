@@ -22,14 +22,12 @@ use Rattle.lan_manifest.specs.Stage.{IsOneColumn}
 use Rattle.lan_manifest.specs.Versions.{IsNewest, NoneListed}
 use Rattle.lan_read.specs.Newest.{NewestManifest}
 use Rattle.lan_read.specs.Standing.{RowsOf, StandsAt, Agrees}
-use Rattle.lan_read.proofs.Newest.{newest_is}
-use Rattle.lan_read.proofs.OneTable.{manifest_one, stands_with}
+use Rattle.lan_read.proofs.LawTerms.{newest_is, none_is, manifest_one, stands_with}
 use Rattle.lan_commit.specs.First.{no_rows, first_object, first_limit}
 use Rattle.lan_commit.specs.Puts.{append_puts, limit_of_append}
 use Rattle.lan_commit.specs.declared.limits.Which.{Which}
-use Rattle.lan_commit.proofs.FirstTable.{none_listed}
 use Rattle.lan_scan.specs.Scans.{text_of}
-use Rattle.lan_scan.proofs.Fronts.{rows_front as lines_front, bytes_front as cut_front}
+use Rattle.lan_scan.proofs.LawTerms.{rows_front as lines_front, bytes_front as cut_front}
 use Rattle.lan_scan.specs.Sending.{GotPart}
 use Rattle.lan_store.specs.Streams.{and_then_bytes}
 use Rattle.lance_cli.specs.Causes.{Cause, Reads, IsOutside, BadInput, Makes, IsNotBuilt, Limited}
@@ -105,7 +103,7 @@ create_settled : (old : List Object) (d : Dataset) (told : Told) (outcome : Outc
     → PutsBy old told.request outcome link_puts → CreateAccepted old json puts text → Settled outcome link_puts puts text
 create_settled old d told outcome link_puts json puts text asked agrees shows replied put a =
     let limit : told.shown.limit ≡ None = shows a.fields a.takes ∙ a.no_limit in
-    let reply = created_at d told.request.line told.shown (form json) (no_rows a.fields).columns a.takes.form a.takes.built (none_listed old d.listed agrees.listed a.none) limit in
+    let reply = created_at d told.request.line told.shown (form json) (no_rows a.fields).columns a.takes.form a.takes.built (none_is old d.listed agrees.listed a.none) limit in
     settled_by old told.request (create json) outcome link_puts puts text (with_version d 1 (no_rows a.fields)) put asked (sym replied ∙ reply ∙ ap (λ t. Some (done t (with_version d 1 (no_rows a.fields)))) (sym a.text_is))
     (λ p. p.2 ∙ ap (λ l. first_object l ∷ []) (one_schema json p.0 a.fields p.1 a.takes) ∙ sym a.puts_are)
 
@@ -223,7 +221,7 @@ limited : (old : List Object) (d : Dataset) (told : Told) (outcome : Outcome) (a
     → outcome ≡ refused (fault.Limit which number)
 limited old d told outcome (create json) which number agrees shows replied ((fields, takes, limit), none) =
     same_Some outcome (refused (fault.Limit which number))
-    (sym replied ∙ limited_at d told.request.line told.shown (form json) (no_rows fields).columns which number takes.form takes.built (none_listed old d.listed agrees.listed (none old refl)) (shows fields takes ∙ limit))
+    (sym replied ∙ limited_at d told.request.line told.shown (form json) (no_rows fields).columns which number takes.form takes.built (none_is old d.listed agrees.listed (none old refl)) (shows fields takes ∙ limit))
 limited old d told outcome append which number agrees shows replied reaches =
     let (m, rows, newest, reads, limit) = reaches old refl in
     let read = read_on old d told outcome newest.version agrees newest.newest replied in

@@ -12,9 +12,7 @@ use Rattle.lan_manifest.specs.Manifests.{PlainManifest}
 use Rattle.lan_manifest.specs.Reads.{ManifestAt}
 use Rattle.lan_manifest.specs.Versions.{IsNewest, NoneListed}
 use Rattle.lan_read.specs.Standing.{StandsAt, Agrees}
-use Rattle.lan_read.proofs.Newest.{newest_is}
-use Rattle.lan_read.proofs.OneTable.{manifest_one}
-use Rattle.lan_commit.proofs.FirstTable.{none_listed}
+use Rattle.lan_read.proofs.LawTerms.{newest_is, none_is, manifest_one}
 use Rattle.lance_cli.specs.Replies.{Outcome, refused, on_version}
 use Rattle.lance_cli.specs.declared.fault.Fault.TheVariants.{NoDataset}
 
@@ -48,7 +46,7 @@ version_read old d version read outcome agrees is_newest is = go (table_at d ver
 -- where none is listed, there is no dataset
 pub none_replied : (old : List Object) (d : Dataset) (read : Table → Option Outcome) (outcome : Outcome) → Agrees old d → NoneListed old → on_version d read (newest d) ≡ Some outcome → outcome ≡ refused NoDataset
 none_replied old d read outcome agrees none is =
-    let last : newest d ≡ None = ap (λ (l : List ℕ). slice_get l (length l - 1)) (none_listed old d.listed agrees.listed none) in
+    let last : newest d ≡ None = ap (λ (l : List ℕ). slice_get l (length l - 1)) (none_is old d.listed agrees.listed none) in
     same_Some outcome (refused NoDataset) (sym is ∙ ap (on_version d read) last)
 
 -- the columns of the newest version's table

@@ -12,7 +12,6 @@ use Rattle.lan_store.specs.declared.name.Name.{Name}
 use Rattle.lan_store.specs.declared.name.Object.{Object}
 use Rattle.lan_manifest.specs.Versions.{IsNewest}
 use Rattle.lan_read.specs.Standing.{RowsOf, Agrees}
-use Rattle.lan_read.proofs.OneTable.{manifest_one}
 use Rattle.lan_scan.specs.Sending.{GotPart}
 use Rattle.lance_cli.specs.Causes.{Cause}
 use Rattle.lance_cli.specs.Chain.{Link, IsLink, Chain, outcomes_of, puts_of}

@@ -12,7 +12,7 @@ use Rattle.lan_rows.specs.Lines.{cut}
 use Rattle.lan_store.specs.Objects.{and_then}
 use Rattle.lan_store.specs.Streams.{and_then_bytes, TookOver}
 use Rattle.lan_store.specs.declared.name.Object.{Object}
-use Rattle.lan_read.proofs.Monotone.{stands_more}
+use Rattle.lan_read.proofs.LawTerms.{stands_more}
 use Rattle.lance_cli.specs.Chain.{Link, outcomes_of}
 use Rattle.lance_cli.specs.Changes.{Change}
 use Rattle.lance_cli.specs.Commands.{Asked, create, append, scan, schema, reads_input, Request}

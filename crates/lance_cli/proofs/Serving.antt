@@ -9,7 +9,7 @@ use Rattle.lan_model.specs.declared.tree.Field.{Field}
 use Rattle.lan_store.specs.Streams.{and_then_bytes}
 use Rattle.lan_form.specs.Form.{form}
 use Rattle.lan_form.specs.Printed.{json_of}
-use Rattle.lan_form.proofs.Unnumbered.{numbers_are_not_printed}
+use Rattle.lan_form.proofs.LawTerms.{numbers_are_not_printed}
 use Rattle.lan_form.specs.declared.faults.FormFault.{FormFault}
 use Rattle.lan_form.specs.declared.faults.FormFault.TheVariants as unformed
 use Rattle.lan_rows.specs.Lines.{rows_of}
@@ -35,7 +35,7 @@ use Rattle.lan_manifest.specs.Versions.{IsNewest, NoneListed}
 use Rattle.lan_read.specs.Newest.{NewestManifest}
 use Rattle.lan_read.specs.Opens.{OpensNewest}
 use Rattle.lan_read.specs.Reasons.{Stands, StandsUnread}
-use Rattle.lan_read.proofs.OneTable.{unread_stands, reason_or_table}
+use Rattle.lan_read.proofs.LawTerms.{unread_stands, reason_or_table}
 use Rattle.lan_read.specs.declared.fault.Reason.{Reason}
 use Rattle.lan_read.specs.declared.fault.Reason.TheVariants.{File}
 use Rattle.lan_read.specs.declared.fault.ReadFault.{ReadFault}
@@ -43,8 +43,7 @@ use Rattle.lan_read.specs.declared.fault.ReadFault.TheVariants as unread
 use Rattle.lan_commit.specs.Commits.{Commits}
 use Rattle.lan_commit.specs.declared.committing.CommitFault.{CommitFault}
 use Rattle.lan_commit.specs.declared.committing.CommitFault.TheVariants as unmade
-use Rattle.lan_commit.proofs.Created.{first_not_held}
-use Rattle.lan_commit.proofs.NeverHeld.{never_held}
+use Rattle.lan_commit.proofs.LawTerms.{first_not_held, never_held}
 use Rattle.lan_scan.specs.declared.scanning.ScanFault.{ScanFault}
 use Rattle.lan_scan.specs.declared.scanning.ScanFault.TheVariants as unscanned
 use Rattle.lance_cli.specs.Causes.{Cause, Reads, StandsIn, IsOutside}

@@ -1,24 +1,24 @@
 -- A link of each command: what its objects stand for, before its last object and with it.
-use Rattle.std.proofs.Common.{◌≡◌, refl, sym, ◌∙◌, ap, subst, ℕ, ◌+◌, ◌-◌, ◌<◌, List, [], ◌∷◌, ◌++◌, length, take, map, arith, append-nil, length-append, true, false}
-use Rattle.std.specs.Prelude.{Bool, ◌&&◌, Option, Some, None, option_map, option_and_then, slice_get, Ok}
+use Rattle.std.proofs.Common.{◌≡◌, refl, sym, ◌∙◌, ap, subst, ℕ, ◌+◌, ◌<◌, List, [], ◌∷◌, ◌++◌, length, take, map, arith, append-nil, length-append, true, false}
+use Rattle.std.specs.Prelude.{Bool, ◌&&◌, All, Option, Some, None, option_map, option_and_then, Ok}
 use Rattle.std.proofs.lemmas.Option.{same_Some}
 use Rattle.lan_model.specs.After as change
 use Rattle.lan_model.specs.After.{after, created}
 use Rattle.lan_model.specs.Dataset.{Dataset, newest, table_at, with_version}
-use Rattle.lan_model.specs.Plain.{PlainValue, unnumbered}
-use Rattle.lan_model.specs.Table.{Table, Column}
+use Rattle.lan_model.specs.Plain.{primitive, vector, text as text_type, bytes as bytes_type, list, struct, PlainField, field, PlainValue, unnumbered}
+use Rattle.lan_model.specs.Table.{Table, Column, FitsRow}
 use Rattle.lan_form.specs.Form.{form}
 use Rattle.lan_form.specs.Judged.{Judged}
 use Rattle.lan_rows.specs.Lines.{rows_of}
 use Rattle.lan_store.specs.declared.name.Object.{Object}
-use Rattle.lan_manifest.specs.Versions.{AreListed, NoneListed}
+use Rattle.lan_manifest.specs.Manifests.{PlainManifest}
+use Rattle.lan_manifest.specs.Stage.{IsOneColumn}
 use Rattle.lan_read.specs.Standing.{Agrees}
+use Rattle.lan_commit.specs.Changes.{Base, numbered_from, puts_of}
 use Rattle.lan_commit.specs.First.{first_object, first_limit}
-use Rattle.lan_commit.specs.Puts.{limit_of_append, append_puts}
+use Rattle.lan_commit.specs.Puts.{limit_of_append}
 use Rattle.lan_commit.specs.declared.limits.Which.{Which}
-use Rattle.lan_commit.proofs.AppendAgrees.{append_agrees_all}
-use Rattle.lan_commit.proofs.FirstTable.{first_agrees}
-use Rattle.lan_commit.proofs.Unseen.{before_manifest}
+use Rattle.lan_commit.proofs.LawTerms.{accepted, unseen}
 use Rattle.lance_cli.specs.Chain.{Link, PutsBy, IsLink, is_done}
 use Rattle.lance_cli.specs.Commands.{Asked, create, append, scan, schema, is_change}
 use Rattle.lance_cli.specs.Puts.{Puts, Shows}
@@ -84,20 +84,20 @@ one_more d version t = length-append d.listed (version ∷ [])
 
 -- ---- create
 
-none_newest : (xs : List ℕ) → slice_get xs (length xs - 1) ≡ None → xs ≡ []
-none_newest [] none = refl
-none_newest (x ∷ xs) none = absurd (go x xs (subst (λ n. slice_get (x ∷ xs) n ≡ None) place none)) where
-  place : length (x ∷ xs) - 1 ≡ length xs
-  place = omega arith
+-- the one column numbered from 0 again is the same
+numbered_again : (fields : List (PlainField ℕ)) → IsOneColumn fields → numbered_from 0 (map unnumbered fields) ≡ fields
+numbered_again [] is = absurd is
+numbered_again (field id name false (primitive q) ∷ []) is = ap (λ (k : ℕ). field k name false (primitive q) ∷ []) (sym is.0)
+numbered_again (field id name false (vector q n) ∷ []) is = ap (λ (k : ℕ). field k name false (vector q n) ∷ []) (sym is.0)
+numbered_again (field id name false text_type ∷ []) is = absurd is.3
+numbered_again (field id name false bytes_type ∷ []) is = absurd is.3
+numbered_again (field id name false (list item) ∷ []) is = absurd is.3
+numbered_again (field id name false (struct members) ∷ []) is = absurd is.3
+numbered_again (field id name true ty ∷ []) is = absurd is
+numbered_again (f ∷ (g ∷ gs)) is = absurd is
 
-  go : (x : ℕ) (xs : List ℕ) → slice_get (x ∷ xs) (length xs) ≡ None → ⊥
-  go x [] is = cc is
-  go x (y ∷ ys) is = go y ys is
-
-none_in : (objects : List Object) (listed : List ℕ) → AreListed objects listed → listed ≡ [] → NoneListed objects
-none_in objects listed are none = λ version is.
-    let found = are.all version is in
-    omega (arith, found.1, ap length none)
+after_create : (d later : Dataset) (columns : List Column) → newest d ≡ None → later ≡ with_version d 1 (record { columns = columns; rows = [] }) → after d (change.create columns) ≡ Some (Ok later)
+after_create d later columns none is = rw (none, is) refl
 
 created_none : (d : Dataset) (columns : List Column) (shown : Shown) (text : List ℕ) (later : Dataset) (o : Option ℕ) → newest d ≡ o → option_map (changed_to shown) (Some (created d columns o)) ≡ Some (done text later)
     → (o ≡ None) × (shown.limit ≡ None) × (later ≡ with_version d 1 (record { columns = columns; rows = [] }))
@@ -115,19 +115,17 @@ create_step : (objects : List Object) (d : Dataset) (told : Told) (json : List �
 create_step objects d told json text later puts agrees shows replied (fields, takes, puts_are) =
     let columns : List Column = map unnumbered fields in
     let made = created_none d columns told.shown text later (newest d) refl (create_change d told.request.line told.shown (form json) columns text later takes.form takes.built replied) in
-    let none : NoneListed objects = none_in objects d.listed agrees.listed (none_newest d.listed made.0) in
     let short : first_limit fields ≡ None = sym (shows fields takes) ∙ made.1 in
+    let again : numbered_from 0 columns ≡ fields = numbered_again fields takes.column in
+    let base : Base = record { objects = objects; newest = None; old = None; deleted = [] } in
+    let are : puts_of base (change.create columns) ≡ puts = ap (λ (fs : List (PlainField ℕ)). first_object fs ∷ []) again ∙ sym puts_are in
     record {
-      after = subst (λ l. Agrees (objects ++ l) later) (sym puts_are) (subst (Agrees (objects ++ first_object fields ∷ [])) (sym made.2) (first_agrees objects d fields takes.column takes.columns short none agrees));
-      before = λ k below.
-          let first : k ≡ 0 = omega (arith, below, ap length puts_are) in
-          subst (λ n. Agrees (objects ++ take n puts) d) (sym first) (none_put objects (take 0 puts) d (none_of puts) agrees);
+      after = subst (λ l. Agrees (objects ++ l) later) are
+          (accepted objects d later base (change.create columns) tt (record { same = refl; newest = tt }) (takes.columns, subst IsOneColumn (sym again) takes.column) agrees (after_create d later columns made.0 made.2) (ap first_limit again ∙ short));
+      before = λ k below. subst (λ l. Agrees (objects ++ take k l) d) are (unseen objects d base (change.create columns) k tt refl agrees (subst (λ (l : List Object). k < length l) (sym are) below));
       same = λ no_change. absurd (cc no_change);
       more = λ accepted. ap (λ (l : Dataset). length l.listed) made.2 ∙ one_more d 1 (record { columns = columns; rows = [] });
-    } where
-      none_of : (l : List Object) → take 0 l ≡ []
-      none_of [] = refl
-      none_of (o ∷ os) = refl
+    }
 
 -- ---- append
 
@@ -146,9 +144,12 @@ append_step objects d told text later puts agrees shows replied (m, all_rows, a,
     sym (ap (option_map (changed_to told.shown)) (after_append d all_rows n.version read.table read.newest read.at)) ∙ sym (ap (append_reply d told.shown) rows) ∙ read.reply in
     let settled = within_done told.shown.limit next later text (same_Some (within told.shown.limit next) (done text later) changed) in
     let unlimited : limit_of_append objects m all_rows ≡ None = sym (shows m all_rows n a.reads) ∙ settled.0 in
+    let base : Base = record { objects = objects; newest = Some m; old = None; deleted = [] } in
+    let done_so : after d (change.append all_rows) ≡ Some (Ok later) = after_append d all_rows n.version read.table read.newest read.at ∙ ap (λ (l : Dataset). Some (Ok l)) (sym settled.1) in
     record {
-      after = subst (λ l. Agrees (objects ++ l) later) (sym puts_are) (subst (Agrees (objects ++ append_puts objects m all_rows)) (sym settled.1) (append_agrees_all objects d n.version read.table m all_rows agrees n.newest n.reads read.stands a.fit unlimited));
-      before = λ k below. subst (λ l. Agrees (objects ++ take k l) d) (sym puts_are) (before_manifest objects d m all_rows k agrees (subst (λ (l : List Object). k < length l) puts_are below));
+      after = subst (λ l. Agrees (objects ++ l) later) (sym puts_are)
+          (accepted objects d later base (change.append all_rows) tt (record { same = refl; newest = n }) (λ read_of is. subst (λ (k : PlainManifest). All (FitsRow k.fields) all_rows) (same_Some m read_of is) a.fit) agrees done_so unlimited);
+      before = λ k below. subst (λ l. Agrees (objects ++ take k l) d) (sym puts_are) (unseen objects d base (change.append all_rows) k tt refl agrees (subst (λ (l : List Object). k < length l) puts_are below));
       same = λ no_change. absurd (cc no_change);
       more = λ accepted. ap (λ (l : Dataset). length l.listed) settled.1 ∙ one_more d (n.version + 1) (record read.table { rows = read.table.rows ++ all_rows });
     }

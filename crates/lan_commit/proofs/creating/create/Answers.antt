@@ -1,5 +1,4 @@
 use Rattle.std.proofs.Common.{map}
-use Rattle.std.specs.Prelude.{Err}
 use Rattle.std.proofs.lemmas.Result.{err_from_is_err_and}
 use Rattle.lan_model.specs.Plain.{plain_field}
 use Rattle.lan_commit.proofs.Calls.{unclashed}

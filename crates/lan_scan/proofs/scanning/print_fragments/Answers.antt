@@ -1,5 +1,5 @@
 use Rattle.std.proofs.Common.{◌≡◌, ◌∙◌, ◌<◌, ◌≤◌, List, ap, sym, subst, length, get_or, map, arith, rules, refl, []}
-use Rattle.std.specs.Prelude.{Ok, Err, flat_map}
+use Rattle.std.specs.Prelude.{Err, flat_map}
 use Rattle.std.proofs.lemmas.List.{take_all}
 use Rattle.std.proofs.lemmas.Result.{err_from_is_err_and}
 use Rattle.lan_store.specs.Budget.{ranges}

@@ -1,8 +1,7 @@
-use Rattle.std.proofs.Common.{[], subst, sym, ◌∙◌, ap, ◌++◌}
+use Rattle.std.proofs.Common.{subst, sym, ◌∙◌, ap}
 use Rattle.std.specs.Prelude.{flat_map}
 use Rattle.std.proofs.lemmas.List.{append-nil}
 use Rattle.lan_scan.specs.Sending.{GotPart}
-use Rattle.lan_scan.proofs.Lines.{sends_all}
 use Rattle.lan_scan.proofs.sending.flush.Goals as goal
 
 pub returns-then-is_err-clause-passes : goal.returns-then-is_err-clause-passes

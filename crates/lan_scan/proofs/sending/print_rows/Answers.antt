@@ -6,7 +6,7 @@ use Rattle.lan_model.specs.declared.tree.Field.{Field}
 use Rattle.lan_model.specs.declared.tree.Val.{Val}
 use Rattle.lan_scan.specs.Sending.{Passes}
 use Rattle.lan_rows.specs.Line.{line_of}
-use Rattle.lan_scan.proofs.Lines.{waits_none, row_passed, rows_stopped, rows_passed}
+use Rattle.lan_scan.proofs.Lines.{waits_none, row_passed, rows_stopped}
 use Rattle.lan_scan.proofs.sending.print_rows.Goals as goal
 
 pub loop-row-init : goal.loop-row-init

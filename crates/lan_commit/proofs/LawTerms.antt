@@ -1,0 +1,4 @@
+-- The laws' terms: what a proof of another crate cites of this one.
+pub use Rattle.lan_commit.proofs.Accepted.{accepted, unseen}
+pub use Rattle.lan_commit.proofs.Created.{first_not_held}
+pub use Rattle.lan_commit.proofs.NeverHeld.{never_held}

@@ -14,7 +14,7 @@ use Rattle.lan_manifest.specs.Manifests.{PlainManifest}
 use Rattle.lan_manifest.specs.Versions.{IsNewest, NoneListed}
 use Rattle.lan_read.specs.Newest.{IsNewestOf, NewestManifest}
 use Rattle.lan_read.specs.Standing.{StandsAt, Agrees}
-use Rattle.lan_read.proofs.Newest.{newest_last}
+use Rattle.lan_read.proofs.LawTerms.{last_is}
 use Rattle.lan_commit.specs.First.{no_rows, first_object, first_limit}
 use Rattle.lan_commit.specs.Puts.{append_puts, limit_of_append}
 use Rattle.lan_commit.specs.declared.limits.Which.{Which}
@@ -107,7 +107,7 @@ on_table objects d version (Some t) agrees at some = record { table = t; at = at
 
 -- where a version is the newest, it is read; and none is where none is listed
 newest_listed : (objects : List Object) (d : Dataset) (o : Option ℕ) → Agrees objects d → newest d ≡ o → IsNewestOf objects o
-newest_listed objects d o agrees is = newest_last objects d.listed o agrees.listed (sym is)
+newest_listed objects d o agrees is = subst (IsNewestOf objects) is (last_is objects d.listed agrees.listed)
 
 -- ---- append
 

@@ -7,7 +7,7 @@ mod column;
 mod dels;
 mod fault;
 mod gathering;
-mod laws;
+pub mod laws;
 mod numbers;
 mod reading;
 mod tab;

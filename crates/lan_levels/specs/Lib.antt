@@ -27,3 +27,5 @@ pub mod ZipBuffers
 pub mod PagesWritten
 pub mod ChunkForm
 pub mod ChunkSlots
+pub mod MiniSlots
+pub mod MiniWritten

@@ -3,3 +3,10 @@ pub mod Weaving
 pub mod Places
 pub mod Steps
 pub mod Opening
+pub mod Ranges
+pub mod Totals
+pub mod Grown
+pub mod Sizes
+pub mod Entries
+pub mod PageParts
+pub mod Leaves

@@ -9,8 +9,8 @@ use Rattle.lan_levels.specs.ChunkSlots.{Buffer, HasBuffers, LevelFits, LevelsFit
 use Rattle.lan_mini.specs.Form.{IsForm, plain_form}
 use Rattle.lan_mini.specs.declared.levels.Levels.{Levels}
 use Rattle.lan_mini.specs.declared.levels.Levels.TheVariants as levels
-use Rattle.lan_mini.specs.declared.cutting.Place.{Place}
-use Rattle.lan_mini.specs.declared.cutting.Buffers.{Buffers}
+use Rattle.lan_mini.specs.declared.buffers.Place.{Place}
+use Rattle.lan_mini.specs.declared.buffers.Buffers.{Buffers}
 use Rattle.lan_mini.specs.declared.values.Values.{Values}
 use Rattle.lan_mini.specs.declared.values.Values.TheVariants as values
 use Rattle.lan_mini.specs.declared.parts.Parts.{Parts}

@@ -3,3 +3,5 @@ pub mod Cutting
 pub mod Placing
 pub mod Refusals
 pub mod Walk
+pub mod Building
+pub mod Pages

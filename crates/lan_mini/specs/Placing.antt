@@ -3,8 +3,8 @@ use Rattle.std.specs.Prelude.{◌≡◌, ℕ, ◌^◌, ◌<◌, ◌≤◌, List,
 use Rattle.lan_levels.specs.Chunks.{small_chunks}
 use Rattle.lan_levels.specs.ChunkSlots.{IsLevelBuffer, level_in, buffer_end}
 use Rattle.lan_mini.specs.Cutting.{plain_buffer, level_list, FewLevels}
-use Rattle.lan_mini.specs.declared.cutting.Place.{Place}
-use Rattle.lan_mini.specs.declared.cutting.Level.{Level}
+use Rattle.lan_mini.specs.declared.buffers.Place.{Place}
+use Rattle.lan_mini.specs.declared.buffers.Level.{Level}
 use Rattle.lan_mini.specs.declared.fault.ChunkFault.{ChunkFault}
 use Rattle.lan_mini.specs.declared.fault.ChunkFault.TheVariants as fault
 

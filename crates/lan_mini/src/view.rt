@@ -6,7 +6,7 @@ ghost use Rattle.lan_levels.specs.ChunkForm.{chunk_form_of};
 ghost use Rattle.lan_levels.specs.ChunkSlots.{IsChunk};
 ghost use Rattle.lan_mini.specs.Refusals.{Stands};
 
-use crate::cutting::Buffers;
+use crate::buffers::Buffers;
 use crate::fault::ChunkFault;
 use crate::form::Form;
 use crate::levels::count_values;

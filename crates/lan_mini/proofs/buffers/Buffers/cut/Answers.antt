@@ -4,7 +4,7 @@ use Rattle.lan_levels.specs.ChunkSlots.{Buffer, IsLevelBuffer, buffer_end, buffe
 use Rattle.lan_mini.specs.Form.{plain_form}
 use Rattle.lan_mini.specs.Cutting.{plain_buffer}
 use Rattle.lan_mini.proofs.Places.{header_is, buffer_is}
-use Rattle.lan_mini.proofs.cutting.Buffers.cut.Goals as goal
+use Rattle.lan_mini.proofs.buffers.Buffers.cut.Goals as goal
 
 pub returns-clause-ok : goal.returns-clause-ok
 returns-clause-ok c =

@@ -3,7 +3,7 @@ use Rattle.lan_levels.specs.Chunks.{small_chunks}
 use Rattle.lan_levels.specs.ChunkSlots.{buffer_bytes}
 use Rattle.lan_mini.specs.Cutting.{plain_buffer}
 use Rattle.lan_mini.proofs.Places.{level_buffer, numbers_count, stored_numbers}
-use Rattle.lan_mini.proofs.cutting.cut_level.Goals as goal
+use Rattle.lan_mini.proofs.buffers.cut_level.Goals as goal
 
 pub returns-clause-ok : goal.returns-clause-ok
 returns-clause-ok c =

@@ -1,5 +1,5 @@
 -- How the slots of a chunk of a mini-block page are stored.
-use Rattle.std.specs.Prelude.{ℕ, ◌/◌, ◌==◌, not, Bool, List, length, map, slice_index}
+use Rattle.std.specs.Prelude.{ℕ, ◌/◌, Bool, true, false, List, length, map}
 use lib.Dec.{ltb}
 use Rattle.lan_model.specs.declared.tree.Layer.{Layer}
 use Rattle.lan_model.specs.declared.tree.Leaf.{Leaf}
@@ -11,8 +11,9 @@ use Rattle.lan_levels.specs.declared.shape.ValueKind.{ValueKind}
 use Rattle.lan_levels.specs.declared.shape.ValueKind.TheVariants as stored
 use Rattle.lan_levels.specs.declared.slot.State.{State}
 use Rattle.lan_levels.specs.Codes.{layer_code, states_of}
+use Rattle.lan_levels.specs.ConstantSlots.{own_piece}
 use Rattle.lan_levels.specs.SlotsOf.{lists_in}
-use Rattle.lan_levels.specs.PlainSlots.{PlainPiece, bit, bytes}
+use Rattle.lan_levels.specs.PlainSlots.{PlainPiece}
 use Rattle.lan_levels.specs.Values.{Encoding, flat, bools, variable}
 use Rattle.lan_levels.specs.ZipForm.{kind_of}
 
@@ -37,16 +38,11 @@ abbrev pub has_defs : ChunkForm → Bool
 has_defs f = ltb 1 (length f.states)
 
 abbrev pub has_buffer : Storing → Bool
-has_buffer (buffered e) = ltb 0 1
-has_buffer (always p) = ltb 0 0
+has_buffer (buffered e) = true
+has_buffer (always p) = false
 
 abbrev pub has_values : ChunkForm → Bool
 has_values f = has_buffer f.values
-
--- a bool's byte is 0 for false
-abbrev pub constant_piece : PlainType ℕ → List ℕ → PlainPiece
-constant_piece (primitive kind.Bool) bs = bit (not (slice_index bs 0 == 0))
-constant_piece ty bs = bytes bs
 
 -- how values in a buffer are encoded
 abbrev pub flat_encoding : PlainType ℕ → ℕ → Encoding
@@ -56,7 +52,7 @@ flat_encoding ty bits = flat (bits / 8)
 abbrev pub storing : PlainType ℕ → ValueKind → Storing
 storing ty (stored.Flat bits) = buffered (flat_encoding ty bits)
 storing ty stored.Variable = buffered variable
-storing ty (stored.Constant b) = always (constant_piece ty b)
+storing ty (stored.Constant b) = always (own_piece ty b)
 
 abbrev pub chunk_form_for : List ℕ → List Layer → Storing → ChunkForm
 chunk_form_for codes layers s = record { states = states_of codes; layers = layers; lists = lists_in layers; values = s }

@@ -1,10 +1,10 @@
 -- The buffers of a mini-block page that is written.
-use Rattle.std.specs.Prelude.{◌≡◌, ℕ, ◌+◌, ◌-◌, ◌*◌, ◌/◌, ◌^◌, ◌<◌, ◌≤◌, ◌==◌, ◌⊎◌, not, cond, ⊤, Bool, true, false, List, [], ◌∷◌, ◌++◌, Some, map, flat_map, replicate, length, take, slice_get}
+use Rattle.std.specs.Prelude.{◌≡◌, ℕ, ◌+◌, ◌-◌, ◌*◌, ◌/◌, ◌^◌, ◌<◌, ◌≤◌, ◌⊎◌, cond, ⊤, Bool, false, List, [], ◌∷◌, ◌++◌, Some, map, flat_map, replicate, length, take, slice_get}
 use Rattle.std.specs.Int.{byte_len}
 use Rattle.lan_bytes.specs.Numbers.{low_first}
 use Rattle.lan_bytes.specs.Padding.{padded}
 use Rattle.lan_levels.specs.declared.slot.State.{State}
-use Rattle.lan_levels.specs.PlainSlots.{PlainPiece, nothing, bit, bytes, PlainSlot}
+use Rattle.lan_levels.specs.PlainSlots.{PlainPiece, bit, bytes, PlainSlot}
 use Rattle.lan_levels.specs.Values.{Encoding, flat, bools, variable}
 use Rattle.lan_levels.specs.BuiltValues.{bool_bytes, variable_bytes}
 use Rattle.lan_levels.specs.ZipSlots.{is_bare, starts}

@@ -1,5 +1,5 @@
 -- How the writer cuts slots into pages, and which page has one value for all of its slots.
-use Rattle.std.specs.Prelude.{ℕ, zero, suc, ◌^◌, ◌==◌, ◌&&◌, ◌||◌, nat_le, cond, Bool, true, false, List, [], ◌∷◌, ◌++◌, length, sum_by, Option, Some, None}
+use Rattle.std.specs.Prelude.{ℕ, zero, ◌^◌, ◌==◌, ◌&&◌, ◌||◌, nat_le, cond, Bool, true, false, List, [], ◌∷◌, ◌++◌, length, sum_by, Option, Some, None}
 use Rattle.std.specs.List.{list_all}
 use Rattle.std.specs.Str.{bytes_eq}
 use Rattle.lan_levels.specs.declared.shape.ValueForm.{ValueForm}

@@ -1,12 +1,12 @@
 -- The buffers of the full-zip page of slots, with the first number of each state.
-use Rattle.std.specs.Prelude.{◌≡◌, ℕ, ◌+◌, ◌==◌, cond, Bool, true, false, List, [], ◌∷◌, ◌++◌, length, map}
+use Rattle.std.specs.Prelude.{ℕ, ◌+◌, ◌==◌, cond, Bool, true, false, List, [], ◌∷◌, ◌++◌, length, map}
 use Rattle.std.specs.List.{concat}
 use Rattle.lan_bytes.specs.Numbers.{low_first}
 use Rattle.lan_levels.specs.declared.slot.State.{State}
 use Rattle.lan_levels.specs.declared.slot.State.TheVariants as state
 use Rattle.lan_levels.specs.PlainSlots.{PlainSlot}
-use Rattle.lan_levels.specs.ZipForm.{PlainForm, form_for}
-use Rattle.lan_levels.specs.ZipWritten.{slot_bytes, row_starts, is_indexed, ArePage}
+use Rattle.lan_levels.specs.ZipForm.{PlainForm}
+use Rattle.lan_levels.specs.ZipWritten.{slot_bytes, row_starts, is_indexed}
 
 abbrev pub same_state : State → State → Bool
 same_state state.Here state.Here = true

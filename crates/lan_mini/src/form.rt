@@ -3,7 +3,8 @@ ghost use Rattle.lan_model.specs.Plain.{plain_type};
 ghost use Rattle.lan_levels.specs.Codes.{FitCodes};
 ghost use Rattle.lan_levels.specs.SlotsOf.{lists_in};
 ghost use Rattle.lan_levels.specs.PlainSlots.{plain_piece};
-ghost use Rattle.lan_levels.specs.ChunkForm.{chunk_form_of, constant_piece, flat_encoding, has_reps, has_defs, has_values, storing, buffered};
+ghost use Rattle.lan_levels.specs.ConstantSlots.{own_piece};
+ghost use Rattle.lan_levels.specs.ChunkForm.{chunk_form_of, flat_encoding, has_reps, has_defs, has_values, storing, buffered};
 ghost use Rattle.lan_mini.specs.Form.{IsForm, plain_form, plain_storing};
 
 use lan_levels::{Codes, Piece, Shape, ValueKind, greatest};
@@ -114,7 +115,7 @@ fn flat<'a>(ty: &Ty, bits: u64) -> Storing<'a>
 
 /// The value that has these bytes.
 fn constant<'a>(ty: &Ty, value: &'a Blob) -> Piece<'a>
-    ensures { plain_piece result ≡ constant_piece (plain_type ty.now) value.now }
+    ensures { plain_piece result ≡ own_piece (plain_type ty.now) value.now }
 {
     let bytes = value.as_slice();
     match ty {

@@ -115,7 +115,7 @@ fn pages_are_read(rt: HostRuntime) -> Result<(), Fail> {
 }
 
 // A nullable leaf of text.
-fn text_leaf(alloc: Global) -> Result<Leaf, AllocError>
+pub fn text_leaf(alloc: Global) -> Result<Leaf, AllocError>
     ensures layers { IfOk result (λ leaf. leaf.layers ≡ layer.Item true ∷ []) }
     ensures ty { IfOk result (λ leaf. plain_type leaf.ty ≡ text) }
 {
@@ -130,7 +130,7 @@ fn text_leaf(alloc: Global) -> Result<Leaf, AllocError>
 }
 
 // The slots of the texts `ab`, null and the empty one.
-fn text_slots(alloc: Global) -> Result<SlotBuf, AllocError>
+pub fn text_slots(alloc: Global) -> Result<SlotBuf, AllocError>
     ensures { IfOk result (λ slots. slots ≡ slot 0 state.Here (bytes (97 ∷ 98 ∷ [])) ∷ slot 0 (state.Null 0) nothing ∷ slot 0 state.Here (bytes []) ∷ []) }
 {
     let mut slots = SlotBuf::new(alloc);

@@ -47,7 +47,7 @@ columns_grown before (c ∷ cs) = grown_then before (with_pages before c) (with_
 
 -- ---- buffers end before what is behind them
 
-buffers_end : (before : List ℕ) (buffers : List (List ℕ)) (end : ℕ) → length (with_buffers before buffers) ≤ end → EndBefore end (places_behind before buffers)
+pub buffers_end : (before : List ℕ) (buffers : List (List ℕ)) (end : ℕ) → length (with_buffers before buffers) ≤ end → EndBefore end (places_behind before buffers)
 buffers_end before [] end within = All-nil (λ (r : Range). r.at + r.len ≤ end)
 buffers_end before (b ∷ bs) end within =
     let next : List ℕ = aligned before ++ b in

@@ -22,3 +22,6 @@ pub mod TablesRead
 pub mod Unique
 pub mod Values
 pub mod Written
+pub mod WrittenColumn
+pub mod WrittenFile
+pub mod WrittenPage

@@ -1,6 +1,6 @@
 -- A file that holds rows of one required column of fixed width, in the writer's own spelling, is a file of the slots of these rows.
-use Rattle.std.proofs.Common.{◌≡◌, inl, refl, sym, ◌∙◌, ap, subst, ℕ, ◌+◌, ◌*◌, ◌-◌, ◌^◌, ◌<◌, ◌≤◌, false, List, [], ◌∷◌, ◌++◌, length, take, drop, map, arith, add-zero}
-use Rattle.std.specs.Prelude.{All, Option, Some, negsuc, sum_by}
+use Rattle.std.proofs.Common.{◌≡◌, inl, refl, sym, ◌∙◌, ap, subst, ℕ, ◌+◌, ◌*◌, ◌^◌, ◌<◌, ◌≤◌, false, List, [], ◌∷◌, ◌++◌, length, drop, map, arith, add-zero}
+use Rattle.std.specs.Prelude.{All, Some}
 use Rattle.std.proofs.Math.Nat.{mul-le-mul_left}
 use Rattle.std.proofs.lemmas.List.{append-nil, length-take, length-drop}
 use Rattle.std.proofs.lemmas.List.Elements.{All-nil, All-cons, All-head}
@@ -19,7 +19,6 @@ use Rattle.lan_model.specs.declared.tree.Primitive.TheVariants as p
 use Rattle.lan_model.specs.Fits.{width}
 use Rattle.lan_model.specs.Leaves.{PlainLeaf, leaves_from}
 use Rattle.lan_model.specs.Plain.{PlainType, primitive, vector, PlainField, field, PlainValue, fields_from, values_from}
-use Rattle.lan_schema.specs.FieldTree.{all_messages}
 use Rattle.lan_wire.specs.Spelling.{num_field, part_item, packed_field}
 use Rattle.lan_meta.specs.declared.page.Layout.TheVariants.{Zip}
 use Rattle.lan_meta.specs.declared.page.PageMeta.{PageMeta}
@@ -30,7 +29,6 @@ use Rattle.lan_meta.specs.PageRules.{bits_of, EndBefore}
 use Rattle.lan_meta.specs.PagesTold.{CanBeTold}
 use Rattle.lan_meta.specs.Written.{column_text as meta_text}
 use Rattle.lan_meta.proofs.LawTerms.{kept_back}
-use Rattle.lan_file.specs.declared.tail.Extent.{Extent}
 use Rattle.lan_file.specs.Descriptor.{StatesRows, descriptor_text as told_text}
 use Rattle.lan_file.specs.FileOf.{IsFileOf}
 use Rattle.lan_file.specs.Files.{HoldsRows}

@@ -12,6 +12,7 @@ pub mod Opening
 pub mod Pages
 pub mod Parts
 pub mod Reasons
+pub mod SlotsWritten
 pub mod Stage
 pub mod Stating
 pub mod Tables

@@ -16,6 +16,7 @@ ghost use Rattle.lan_file.specs.Files.{HoldsRows};
 ghost use Rattle.lan_file.specs.HeadReasons.{HeadStands};
 ghost use Rattle.lan_file.specs.Heads.{Pick, HasHead};
 ghost use Rattle.lan_file.specs.Reasons.{IsSmall, Stands};
+ghost use Rattle.lan_file.specs.SlotsWritten.{Given, columns_of, IsGiven, AreGiven};
 ghost use Rattle.lan_file.specs.Stage.{IsRequiredFixed};
 ghost use Rattle.lan_file.specs.Writing.{file_bytes};
 
@@ -45,6 +46,12 @@ pub fn written_heads_are_read()
 pub fn written_files_have_their_slots()
     ensures { (fields : PlainFields ℕ) (rows : ℕ) (columns : List (List BuiltPage)) (picks : List Pick) (found : List (List PageMeta)) (slots : List (List PlainSlot)) → rows < 2 ^ 64 → length columns < 2 ^ 32 → length (file_text fields rows columns) < 2 ^ 64
         → AreWritten rows columns picks found → AreBuilt columns picks slots → IsFileOf picks (file_text fields rows columns) rows slots }
+{}
+
+/// A file that is written of slots by the writer's rule, so many rows of each leaf, is a file of these slots.
+pub fn files_of_slots_are_files()
+    ensures { (fields : PlainFields ℕ) (rows : ℕ) (given : List Given) (picks : List Pick) (slots : List (List PlainSlot)) → rows < 2 ^ 64 → length given < 2 ^ 32 → All (IsGiven rows) given → length (file_text fields rows (columns_of given)) ≤ 2 ^ 63
+        → AreGiven given picks slots → IsFileOf picks (file_text fields rows (columns_of given)) rows slots }
 {}
 
 /// Bytes have one head.

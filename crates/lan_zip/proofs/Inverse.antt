@@ -106,7 +106,7 @@ slot_spelled f s all r c h =
       is = body_spelled f s.state s.value c.value;
     }
 
-parts_spelled : (f : PlainForm) (ss : List PlainSlot) (ps : List (List ℕ)) → Roomy f → All (CanStand f) ss → PartsAre f ss ps → AreSpelled f ss (concat ps)
+pub parts_spelled : (f : PlainForm) (ss : List PlainSlot) (ps : List (List ℕ)) → Roomy f → All (CanStand f) ss → PartsAre f ss ps → AreSpelled f ss (concat ps)
 parts_spelled f [] [] r h a = refl
 parts_spelled f [] (p ∷ ps) r h a = absurd a
 parts_spelled f (s ∷ ss) [] r h a = absurd a

@@ -6,3 +6,4 @@ pub mod Rows
 pub mod Words
 pub mod Standing
 pub mod Paths
+pub mod Written

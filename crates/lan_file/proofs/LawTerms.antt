@@ -7,3 +7,4 @@ pub use Rattle.lan_file.proofs.FileStands.{file_stands, one_file}
 pub use Rattle.lan_file.proofs.HeadLaws.{one_head, no_head_reason}
 pub use Rattle.lan_file.proofs.PlainIsFile.{plain_file_is}
 pub use Rattle.lan_file.proofs.WrittenFile.{slots_are_a_file}
+pub use Rattle.lan_file.proofs.WrittenRows.{rows_are_a_file}

@@ -25,3 +25,4 @@ pub mod Written
 pub mod WrittenColumn
 pub mod WrittenFile
 pub mod WrittenPage
+pub mod WrittenRows

@@ -161,7 +161,7 @@ pub all_stand : (leaf : PlainLeaf) (pages : List BuiltPage) (slots : List PlainS
 all_stand leaf [] slots s = s
 all_stand leaf (page ∷ pages) slots s = (s.0, s.1, s.2, s.3.is, all_stand leaf pages s.1 s.4)
 
-starts-append : (lists : ℕ) (xs ys : List PlainSlot) → starts lists (xs ++ ys) ≡ starts lists xs + starts lists ys
+pub starts-append : (lists : ℕ) (xs ys : List PlainSlot) → starts lists (xs ++ ys) ≡ starts lists xs + starts lists ys
 starts-append lists [] ys = omega arith
 starts-append lists (x ∷ xs) ys = omega (arith, starts-append lists xs ys)
 

@@ -6,7 +6,9 @@ ghost use Rattle.lan_levels.specs.SlotsOf.{rows_slots};
 ghost use Rattle.lan_meta.specs.declared.page.BuiltPage.{BuiltPage};
 ghost use Rattle.lan_meta.specs.declared.page.PageMeta.{PageMeta};
 ghost use Rattle.lan_model.specs.Leaves.{PlainLeaf, leaves_from};
-ghost use Rattle.lan_model.specs.Plain.{PlainField, PlainFields, PlainValue, fields_from, values_from};
+ghost use Rattle.lan_model.specs.Fits.{EachFits};
+ghost use Rattle.lan_model.specs.Plain.{PlainField, PlainFields, PlainValue, PlainValues, fields_from, values_from};
+ghost use Rattle.lan_zip.specs.Standing.{AllHaveRoom};
 ghost use Rattle.lan_model.specs.Table.{FitsRow};
 ghost use Rattle.lan_file.specs.declared.fault.FileReason.{FileReason};
 ghost use Rattle.lan_file.specs.declared.head_fault.HeadReason.{HeadReason};
@@ -16,7 +18,7 @@ ghost use Rattle.lan_file.specs.Files.{HoldsRows};
 ghost use Rattle.lan_file.specs.HeadReasons.{HeadStands};
 ghost use Rattle.lan_file.specs.Heads.{Pick, HasHead};
 ghost use Rattle.lan_file.specs.Reasons.{IsSmall, Stands};
-ghost use Rattle.lan_file.specs.SlotsWritten.{Given, columns_of, IsGiven, AreGiven};
+ghost use Rattle.lan_file.specs.SlotsWritten.{Given, columns_of, IsGiven, AreGiven, TakesRows, rows_columns, AreLeaves, slots_asked};
 ghost use Rattle.lan_file.specs.Stage.{IsRequiredFixed};
 ghost use Rattle.lan_file.specs.Writing.{file_bytes};
 
@@ -52,6 +54,12 @@ pub fn written_files_have_their_slots()
 pub fn files_of_slots_are_files()
     ensures { (fields : PlainFields ℕ) (rows : ℕ) (given : List Given) (picks : List Pick) (slots : List (List PlainSlot)) → rows < 2 ^ 64 → length given < 2 ^ 32 → All (IsGiven rows) given → length (file_text fields rows (columns_of given)) ≤ 2 ^ 63
         → AreGiven given picks slots → IsFileOf picks (file_text fields rows (columns_of given)) rows slots }
+{}
+
+/// A file that is written of rows by the writer's rule is a file of the slots of these rows.
+pub fn files_of_rows_are_files()
+    ensures { (fields : PlainFields ℕ) (rows : List PlainValues) (picks : List Pick) → All (EachFits fields) rows → All AllHaveRoom rows → All (TakesRows rows) (leaves_from fields 0) → length rows < 2 ^ 64 → length (leaves_from fields 0) < 2 ^ 32
+        → length (file_text fields (length rows) (rows_columns fields rows)) ≤ 2 ^ 63 → AreLeaves (leaves_from fields 0) picks → IsFileOf picks (file_text fields (length rows) (rows_columns fields rows)) (length rows) (slots_asked rows picks) }
 {}
 
 /// Bytes have one head.

@@ -9,4 +9,8 @@ pub mod Grown
 pub mod Sizes
 pub mod Entries
 pub mod PageParts
+pub mod HeaderBack
+pub mod SlotsBack
+pub mod ChunkBack
+pub mod Inverse
 pub mod Leaves

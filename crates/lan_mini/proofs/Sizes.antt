@@ -19,13 +19,13 @@ use Rattle.lan_mini.specs.Building.{CanChunk, FitsStoring}
 use Rattle.lan_mini.proofs.Grown.{texts_len}
 
 -- a value that is stored so has that many bytes
-abbrev FitsPiece : Storing → PlainPiece → Type 0
+abbrev pub FitsPiece : Storing → PlainPiece → Type 0
 FitsPiece (buffered (flat width)) v = length (fixed_bytes width v) ≡ width
 FitsPiece (buffered bools) v = Unit {0}
 FitsPiece (buffered variable) v = Unit {0}
 FitsPiece (always p) v = Unit {0}
 
-abbrev EachFits : Storing → List PlainPiece → Type 0
+abbrev pub EachFits : Storing → List PlainPiece → Type 0
 EachFits st [] = Unit {0}
 EachFits st (v ∷ vs) = FitsPiece st v × EachFits st vs
 
@@ -43,7 +43,7 @@ if_fits : (st : Storing) (b : Bool) (v : PlainPiece) (vs : List PlainPiece) → 
 if_fits st true v vs h hs = hs
 if_fits st false v vs h hs = (h, hs)
 
-each_fits : (f : ChunkForm) (slots : List PlainSlot) → All (CanChunk f) slots → EachFits f.values (carried f slots)
+pub each_fits : (f : ChunkForm) (slots : List PlainSlot) → All (CanChunk f) slots → EachFits f.values (carried f slots)
 each_fits f [] h = tt
 each_fits f (s ∷ slots) h =
     let one : CanChunk f s = h 0 s (omega arith) in
@@ -95,7 +95,7 @@ numbered_count states (x ∷ xs) (d ∷ ds) h = ap suc (numbered_count states xs
 pub reps_len : (xs : List PlainSlot) → length (rep_bytes xs) ≡ 2 * length xs
 reps_len xs = omega (arith, numbers_len (map (λ (s : PlainSlot). s.rep) xs), length-map xs (λ (s : PlainSlot). s.rep))
 
-zeros_len : (n : ℕ) → n + length (zeros_behind n) ≡ padded n
+pub zeros_len : (n : ℕ) → n + length (zeros_behind n) ≡ padded n
 zeros_len n = omega (arith, length-replicate {A = ℕ} (padded n - n) 0)
 
 pub padded_len : (bs : List ℕ) (n : ℕ) → length bs ≡ n → length (zero_padded bs) ≡ padded n

@@ -5,3 +5,4 @@ pub mod Refusals
 pub mod Walk
 pub mod Building
 pub mod Pages
+pub mod Inverse

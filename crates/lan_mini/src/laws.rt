@@ -1,6 +1,12 @@
 ghost use Rattle.lan_levels.specs.ChunkSlots.{ChunksAreUnique};
+ghost use Rattle.lan_mini.specs.Inverse.{ChunksAreRead};
 
 /// A law of the definitions: the bytes of a chunk stand for one list of slots.
 pub fn chunks_are_unique()
     ensures { ChunksAreUnique }
+{}
+
+/// A law of the definitions: each chunk that is built is a chunk of its slots.
+pub fn chunks_are_read()
+    ensures { ChunksAreRead }
 {}

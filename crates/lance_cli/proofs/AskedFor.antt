@@ -1,5 +1,5 @@
 -- What a command that isn't begun asks, and one that is.
-use Rattle.std.proofs.Common.{◌≡◌, inl, sym, subst, ℕ, arith}
+use Rattle.std.proofs.Common.{◌≡◌, inl, sym, subst, arith}
 use Rattle.std.specs.Prelude.{Option, Some, None}
 use Rattle.lan_store.specs.Budget.{Budget, nothing, ranges, Asks}
 use Rattle.lan_store.specs.Telling.{Telling}

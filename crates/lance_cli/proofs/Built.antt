@@ -6,9 +6,9 @@ use Rattle.lan_form.specs.Form.{form}
 use Rattle.lan_form.specs.Numbers.{CountsFrom, CountFrom}
 use Rattle.lan_manifest.specs.Columns.{IsColumn}
 use Rattle.lan_manifest.specs.Stage.{IsOneColumn}
-use Rattle.lan_model.specs.Plain.{PlainType, primitive, vector, text, bytes, list, struct, PlainField, field, no_fields, one_field, plain_type, plain_field, plain_fields, unnumbered, type_unnumbered}
+use Rattle.lan_model.specs.Plain.{PlainType, primitive, vector, text, bytes, list, struct, PlainField, field, plain_type, plain_field, plain_fields, unnumbered, type_unnumbered}
 use Rattle.lan_model.specs.PlainTable.{column_of}
-use Rattle.lan_model.specs.Table.{Column, AreColumns, name_of}
+use Rattle.lan_model.specs.Table.{AreColumns, name_of}
 use Rattle.lan_model.specs.declared.tree.Field.{Field, the_lemmas}
 use Rattle.lance_cli.specs.Creates.{Takes}
 use Rattle.lance_cli.specs.Stage.{is_fixed, is_built}

@@ -1,9 +1,8 @@
 -- What a command's own words decide.
-use Rattle.std.proofs.Common.{◌≡◌, inl, inr, refl, sym, ◌∙◌, ap, ℕ, List, map, true, false}
-use Rattle.std.specs.Prelude.{◌⊎◌, Result, Ok, Err}
+use Rattle.std.proofs.Common.{◌≡◌, inl, inr, refl, sym, ◌∙◌, ap, ℕ, List, map}
+use Rattle.std.specs.Prelude.{◌⊎◌, Result, Err}
 use Rattle.lan_model.specs.Plain.{PlainField, unnumbered}
-use Rattle.lan_model.specs.declared.tree.Field.{Field}
-use Rattle.lance_cli.specs.Commands.{Asked, create, append, scan, schema}
+use Rattle.lance_cli.specs.Commands.{create}
 use Rattle.lance_cli.specs.Creates.{Takes, ReadsFields}
 use Rattle.lance_cli.specs.Faults.{of_form}
 use Rattle.lance_cli.specs.Stage.{is_built}

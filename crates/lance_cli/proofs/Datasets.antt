@@ -1,12 +1,12 @@
 -- Objects agree with a dataset: the versions that are listed, and the table of one that stands.
-use Rattle.std.proofs.Common.{◌≡◌, inl, inr, refl, sym, ◌∙◌, ap, subst, ℕ, zero, suc, ◌+◌, ◌^◌, ◌<◌, ◌≤◌, List, [], ◌∷◌, length, get_or, arith, true}
+use Rattle.std.proofs.Common.{◌≡◌, inl, inr, refl, sym, subst, ℕ, zero, suc, ◌+◌, ◌^◌, ◌<◌, ◌≤◌, List, [], ◌∷◌, length, get_or, arith}
 use Rattle.std.specs.Prelude.{Option, Some, None, IsSome, All, Contains, ◌⊎◌}
 use Rattle.std.proofs.lemmas.Bool.{cases_lt}
 use Rattle.lan_model.specs.Dataset.{Dataset}
 use Rattle.lan_model.specs.Table.{Table}
 use Rattle.lan_store.specs.Objects.{object}
 use Rattle.lan_store.specs.declared.name.Object.{Object}
-use Rattle.lan_manifest.specs.Versions.{IsVersion, IsListed, AreListed, manifest_name}
+use Rattle.lan_manifest.specs.Versions.{IsListed, AreListed, manifest_name}
 use Rattle.lan_read.specs.Standing.{StandsAt, Agrees}
 
 -- the listed versions from a number on

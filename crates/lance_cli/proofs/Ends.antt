@@ -9,7 +9,7 @@ use Rattle.lan_store.specs.declared.name.Object.{Object}
 use Rattle.lan_read.specs.Standing.{Agrees}
 use Rattle.lance_cli.specs.Chain.{Link, puts_of, changes, is_done, IsFront}
 use Rattle.lance_cli.specs.Replies.{Mode}
-use Rattle.lance_cli.specs.Runs.{Entry, Done, IsPart, StopsAt, Stand, StoppedIn, Stops, Moments, put_at}
+use Rattle.lance_cli.specs.Runs.{Entry, Done, IsPart, StopsAt, Stand, StoppedIn, Stops, Moments}
 use Rattle.lance_cli.specs.declared.fault.Fault.{Fault}
 use Rattle.lance_cli.specs.declared.fault.Fault.TheVariants as fault
 use Rattle.lance_cli.proofs.Fronts.{Links, links_of, take_within, take_past, fronts, front_done, front_within, changes_more}

@@ -1,17 +1,17 @@
 -- A command has a link where the versions that it reads have tables, and a run its chain where they stand.
-use Rattle.std.proofs.Common.{◌≡◌, inl, inr, refl, sym, ◌∙◌, ap, subst, ℕ, List, [], ◌∷◌, map, true, false, arith}
-use Rattle.std.specs.Prelude.{Bool, MatchBool, nat_eq, ◌++◌, Option, Some, None, IsSome, option_and_then, option_map, All, Result, Ok, Err}
+use Rattle.std.proofs.Common.{◌≡◌, refl, sym, ◌∙◌, ap, subst, ℕ, List, [], ◌∷◌, map, true, false, arith}
+use Rattle.std.specs.Prelude.{Bool, MatchBool, nat_eq, ◌++◌, Option, Some, None, IsSome, option_and_then, Result, Ok, Err}
 use Rattle.std.proofs.lemmas.Bool.Decides.{nat_tests}
 use Rattle.lan_model.specs.Dataset.{Dataset, newest, table_at, with_version}
 use Rattle.lan_model.specs.Plain.{PlainField, PlainValue, unnumbered}
-use Rattle.lan_model.specs.Table.{Column, Table, FitsRow}
+use Rattle.lan_model.specs.Table.{Column, Table}
 use Rattle.lan_form.specs.Form.{form}
 use Rattle.lan_form.specs.Judged.{Judged}
 use Rattle.lan_rows.specs.Lines.{rows_of}
 use Rattle.lan_rows.specs.declared.lines.LinesFault.{LinesFault}
 use Rattle.lan_store.specs.declared.name.Object.{Object}
 use Rattle.lan_manifest.specs.Manifests.{PlainManifest}
-use Rattle.lan_manifest.specs.Versions.{IsNewest, NoneListed}
+use Rattle.lan_manifest.specs.Versions.{IsNewest}
 use Rattle.lan_read.specs.Newest.{IsNewestOf, NewestManifest}
 use Rattle.lan_read.specs.Standing.{StandsAt, Agrees}
 use Rattle.lan_read.proofs.LawTerms.{last_is}
@@ -24,11 +24,10 @@ use Rattle.lance_cli.specs.Creates.{Takes}
 use Rattle.lance_cli.specs.Faults.{of_form, of_lines}
 use Rattle.lance_cli.specs.Laws.{RowsFit, IsSound, HasTables, AllStand}
 use Rattle.lance_cli.specs.Puts.{Puts, Shows}
-use Rattle.lance_cli.specs.Replies.{Told, Shown, Outcome, refused, done, within, changed_to, create_reply, append_reply, on_version, reply, single, said_by, goes_on, left_by, alone, asked_of}
+use Rattle.lance_cli.specs.Replies.{Told, Shown, Outcome, refused, done, within, create_reply, append_reply, on_version, reply, single, said_by, goes_on, left_by, alone, asked_of}
 use Rattle.lance_cli.specs.Reports.{schema_text}
 use Rattle.lance_cli.specs.Runs.{IsRun}
 use Rattle.lance_cli.specs.Stage.{is_built}
-use Rattle.lance_cli.specs.declared.fault.Fault.{Fault}
 use Rattle.lance_cli.specs.declared.fault.Fault.TheVariants as fault
 use Rattle.lance_cli.proofs.Datasets.{bare_dataset, dataset_with}
 use Rattle.lance_cli.proofs.Linked.{one_schema, newest_one, there_at, unbuilt_at, after_append, changed, lines_of}

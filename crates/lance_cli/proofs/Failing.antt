@@ -1,6 +1,6 @@
 -- The store's part in an answer is that of the fault it comes from.
-use Rattle.std.proofs.Common.{◌≡◌, refl, sym, ◌∙◌, ap, subst, ℕ, ◌≤◌, List, true, false}
-use Rattle.std.specs.Prelude.{Bool, IsTrue, Option, Some, None, Result, Ok, Err}
+use Rattle.std.proofs.Common.{◌≡◌, refl, sym, ◌∙◌, subst, ℕ, ◌≤◌, List, false}
+use Rattle.std.specs.Prelude.{Bool, IsTrue, Option, None, Result, Ok, Err}
 use Rattle.lan_model.specs.Plain.{PlainValue}
 use Rattle.lan_store.specs.Budget.{Budget}
 use Rattle.lan_store.specs.Causes.{HasCause}

@@ -1,7 +1,6 @@
 -- What a command did is what is replied to it, where the version that it reads stands.
-use Rattle.std.proofs.Common.{◌≡◌, inl, inr, refl, sym, ◌∙◌, ap, subst, ℕ, ◌+◌, ◌-◌, List, [], ◌∷◌, ◌++◌, length, take, map, arith, append-nil, length-append, true, false}
-use Rattle.std.specs.Prelude.{Option, Some, None, option_map, unwrap_or, slice_get, flat_map, Result, Ok, Err}
-use Rattle.std.specs.Option.{ForSome}
+use Rattle.std.proofs.Common.{◌≡◌, inl, inr, refl, sym, ◌∙◌, ap, subst, ℕ, ◌+◌, List, [], ◌∷◌, ◌++◌, take, map, arith, append-nil, true, false}
+use Rattle.std.specs.Prelude.{Option, Some, None, option_map, unwrap_or, flat_map, Result, Ok, Err}
 use Rattle.std.proofs.lemmas.Option.{same_Some}
 use Rattle.lan_model.specs.After as change
 use Rattle.lan_model.specs.After.{after}
@@ -10,7 +9,6 @@ use Rattle.lan_model.specs.Plain.{primitive, vector, text as texts, bytes as bin
 use Rattle.lan_model.specs.Table.{Table, Column}
 use Rattle.lan_form.specs.Form.{form}
 use Rattle.lan_form.specs.Judged.{Judged}
-use Rattle.lan_form.specs.declared.faults.FormFault.{FormFault}
 use Rattle.lan_rows.specs.Line.{line_of}
 use Rattle.lan_rows.specs.Lines.{rows_of}
 use Rattle.lan_rows.specs.declared.lines.LinesFault.{LinesFault}
@@ -23,20 +21,19 @@ use Rattle.lan_manifest.specs.Versions.{IsNewest, NoneListed}
 use Rattle.lan_read.specs.Newest.{NewestManifest}
 use Rattle.lan_read.specs.Standing.{RowsOf, StandsAt, Agrees}
 use Rattle.lan_read.proofs.LawTerms.{newest_is, none_is, manifest_one, stands_with}
-use Rattle.lan_commit.specs.First.{no_rows, first_object, first_limit}
-use Rattle.lan_commit.specs.Puts.{append_puts, limit_of_append}
+use Rattle.lan_commit.specs.First.{no_rows, first_object}
+use Rattle.lan_commit.specs.Puts.{append_puts}
 use Rattle.lan_commit.specs.declared.limits.Which.{Which}
 use Rattle.lan_scan.specs.Scans.{text_of}
 use Rattle.lan_scan.proofs.LawTerms.{rows_front as lines_front, bytes_front as cut_front}
 use Rattle.lan_scan.specs.Sending.{GotPart}
 use Rattle.lan_store.specs.Streams.{and_then_bytes}
-use Rattle.lance_cli.specs.Causes.{Cause, Reads, IsOutside, BadInput, Makes, IsNotBuilt, Limited}
+use Rattle.lance_cli.specs.Causes.{Cause, Reads, BadInput, Makes, IsNotBuilt, Limited}
 use Rattle.lance_cli.specs.Chain.{Link, PutsBy, IsLink}
 use Rattle.lance_cli.specs.Commands.{Asked, create, append, scan, schema, reads_version, prints_rows, Request}
 use Rattle.lance_cli.specs.Creates.{Takes}
-use Rattle.lance_cli.specs.Faults.{of_form, of_lines}
-use Rattle.lance_cli.specs.Puts.{ReadsRows, Puts, Shows, Accepts, CreateAccepted, AppendAccepted, ScanAccepted, SchemaAccepted}
-use Rattle.lance_cli.specs.Replies.{Told, Shown, Outcome, refused, done, within, changed_to, create_reply, append_reply, on_version, answer, single, said_by, text_by}
+use Rattle.lance_cli.specs.Puts.{Puts, Shows, Accepts, CreateAccepted, AppendAccepted, ScanAccepted, SchemaAccepted}
+use Rattle.lance_cli.specs.Replies.{Told, Shown, Outcome, refused, done, within, changed_to, create_reply, append_reply, answer, single, said_by, text_by}
 use Rattle.lance_cli.specs.Reports.{version_text, schema_text}
 use Rattle.lance_cli.specs.Served.{PrintsRows, PrintsBytes}
 use Rattle.lance_cli.specs.Stage.{is_built}

@@ -1,23 +1,18 @@
 -- What a run of one command did, of the one link of its chain.
-use Rattle.std.proofs.Common.{◌≡◌, inl, inr, refl, sym, ◌∙◌, ap, subst, ℕ, zero, suc, ◌+◌, ◌<◌, ◌≤◌, List, [], ◌∷◌, ◌++◌, length, take, map, arith, append-nil, append_assoc, true, false}
-use Rattle.std.specs.Prelude.{Bool, MatchBool, cond, IsTrue, ◌⊎◌, Option, Some, None, option_map, Result, Ok, Err}
-use Rattle.std.specs.Option.{ForSome}
-use Rattle.std.proofs.lemmas.Option.{same_Some}
+use Rattle.std.proofs.Common.{◌≡◌, inl, inr, refl, sym, ◌∙◌, ap, subst, ℕ, ◌<◌, ◌≤◌, List, [], ◌∷◌, ◌++◌, length, take, map, arith, append-nil, true, false}
+use Rattle.std.specs.Prelude.{Bool, MatchBool, IsTrue, ◌⊎◌, Some, Result, Ok, Err}
 use Rattle.std.proofs.lemmas.List.{take_all}
 use Rattle.lan_model.specs.Dataset.{Dataset}
-use Rattle.lan_model.specs.Plain.{PlainValue}
-use Rattle.lan_model.specs.Table.{Table}
 use Rattle.lan_store.specs.Streams.{and_then_bytes}
 use Rattle.lan_store.specs.declared.name.Name.{Name}
 use Rattle.lan_store.specs.declared.name.Object.{Object}
-use Rattle.lan_manifest.specs.Versions.{IsNewest}
-use Rattle.lan_read.specs.Standing.{RowsOf, Agrees}
+use Rattle.lan_read.specs.Standing.{Agrees}
 use Rattle.lan_scan.specs.Sending.{GotPart}
 use Rattle.lance_cli.specs.Causes.{Cause}
-use Rattle.lance_cli.specs.Chain.{Link, IsLink, Chain, outcomes_of, puts_of}
+use Rattle.lance_cli.specs.Chain.{Link, IsLink, Chain, puts_of}
 use Rattle.lance_cli.specs.Changes.{Change}
-use Rattle.lance_cli.specs.Commands.{Asked, create, append, scan, schema, prints_rows, Request}
-use Rattle.lance_cli.specs.Replies.{Told, Outcome, refused, done, Mode, single, batch, generate, said_by, goes_on, text_by, texts, answer_to, left_by, left_after, replied, Tells, alone, answer, asked_of}
+use Rattle.lance_cli.specs.Commands.{prints_rows, Request}
+use Rattle.lance_cli.specs.Replies.{Told, Outcome, refused, done, Mode, single, batch, generate, said_by, goes_on, text_by, answer_to, left_by, replied, Tells, alone, answer, asked_of}
 use Rattle.lance_cli.specs.Runs.{IsRun, IsDone, IsFailure, IsPart, StopsAt, StoppedIn, put_at}
 use Rattle.lance_cli.specs.Served.{Applied, GotBefore, WriteFails, Served}
 use Rattle.lance_cli.specs.declared.fault.Fault.{Fault}

@@ -1,27 +1,26 @@
 -- What a run does to the tables, from what its command read, put and answered.
 use Rattle.std.proofs.Common.{◌≡◌, inl, inr, refl, sym, ◌∙◌, ap, subst, ℕ, ◌^◌, ◌<◌, ◌≤◌, List, [], ◌∷◌, ◌++◌, length, take, arith, append-nil, true, false, drop}
-use Rattle.std.specs.Prelude.{Bool, ◌&&◌, nat_lt, cond, IsTrue, ◌⊎◌, IsSomeAnd, Option, Some, None, Vec, Result, Ok, Err, option_map}
+use Rattle.std.specs.Prelude.{Bool, ◌&&◌, nat_lt, cond, IsTrue, IsSomeAnd, Option, Some, None, Vec, Result, Ok, Err, option_map}
 use Rattle.std.specs.Option.{ForSome}
 use Rattle.std.specs.declared.alloc.Global.{Global}
 use Rattle.std.proofs.lemmas.Bool.Decides.{nat_tests}
 use Rattle.std.proofs.lemmas.List.{take_all, drop_all}
 use Rattle.std.proofs.lemmas.Option.{same_Some}
 use Rattle.lan_model.specs.Dataset.{Dataset}
-use Rattle.lan_model.specs.Table.{Table}
 use Rattle.lan_rows.specs.Lines.{cut}
 use Rattle.lan_store.specs.Objects.{and_then}
-use Rattle.lan_store.specs.Streams.{and_then_bytes, TookOver}
+use Rattle.lan_store.specs.Streams.{and_then_bytes}
 use Rattle.lan_store.specs.declared.name.Object.{Object}
 use Rattle.lan_read.proofs.LawTerms.{stands_more}
 use Rattle.lance_cli.specs.Chain.{Link, outcomes_of}
 use Rattle.lance_cli.specs.Changes.{Change}
 use Rattle.lance_cli.specs.Commands.{Asked, create, append, scan, schema, reads_input, Request}
 use Rattle.lance_cli.specs.Inputs.{IsInput, ReadsInput, TakesText}
-use Rattle.lance_cli.specs.Replies.{Mode, single, batch, generate, answer_to, Tells, alone, asked_of}
-use Rattle.lance_cli.specs.Runs.{Entry, wants_input, heard, IsLong, IsTooLong, Keeps, Kept, IsRun, Done, IsDone, IsUntouched, StoppedIn, Stops, Moments, expected, Decided, IsFailure, OnTrail, NoneLeft, NextRefused, Ran, IsEarly, Ordered, TakenToEnd, TakenBy}
+use Rattle.lance_cli.specs.Replies.{Mode, single, answer_to, alone, asked_of}
+use Rattle.lance_cli.specs.Runs.{Entry, wants_input, heard, IsLong, Keeps, Kept, IsRun, Done, IsDone, StoppedIn, Stops, Moments, expected, Decided, OnTrail, NoneLeft, NextRefused, Ran, Ordered, TakenToEnd, TakenBy}
 use Rattle.lance_cli.specs.Puts.{Accepts}
-use Rattle.lance_cli.specs.Served.{Applied, WithText, Stopped, WriteFails, Served}
-use Rattle.lance_cli.specs.Steps.{Step, Trail}
+use Rattle.lance_cli.specs.Served.{Applied, Stopped, WriteFails, Served}
+use Rattle.lance_cli.specs.Steps.{Step}
 use Rattle.lan_store.specs.Telling.{Telling}
 use Rattle.lance_cli.specs.Words.{ByWords, WordsFirst}
 use Rattle.lance_cli.specs.declared.fault.Fault.{Fault}

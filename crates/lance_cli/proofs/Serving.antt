@@ -1,6 +1,6 @@
 -- What each step of a command has answered is what stands after the command.
 use Rattle.std.proofs.Common.{◌≡◌, inl, inr, refl, sym, ◌∙◌, ap, subst, ℕ, ◌+◌, ◌<◌, ◌≤◌, List, [], ◌∷◌, ◌++◌, length, take, map, arith, append-nil, true, false}
-use Rattle.std.specs.Prelude.{Bool, ◌⊎◌, IsTrue, IsErrOf, Option, Some, None, Result, Ok, Err}
+use Rattle.std.specs.Prelude.{Bool, IsErrOf, Option, Some, Result, Ok, Err}
 use Rattle.std.specs.Prelude.{codes, Vec}
 use Rattle.std.specs.declared.alloc.Global.{Global}
 use Rattle.lan_model.specs.Plain.{PlainField, PlainValue, unnumbered, plain_field, plain_fields, fields_from}
@@ -27,11 +27,11 @@ use Rattle.std.specs.Option.{ForSome}
 use Rattle.std.proofs.lemmas.List.{take_all}
 use Rattle.lan_store.specs.Causes.{HasCause}
 use Rattle.lan_store.specs.Objects.{and_then}
-use Rattle.lan_store.specs.PutsAll.{HasFirst, IsHeldAt}
+use Rattle.lan_store.specs.PutsAll.{IsHeldAt}
 use Rattle.lan_store.specs.declared.name.Name.{Name}
 use Rattle.lan_store.specs.declared.name.Object.{Object}
 use Rattle.lan_manifest.specs.Manifests.{PlainManifest, plain_manifest}
-use Rattle.lan_manifest.specs.Versions.{IsNewest, NoneListed}
+use Rattle.lan_manifest.specs.Versions.{IsNewest}
 use Rattle.lan_read.specs.Newest.{NewestManifest}
 use Rattle.lan_read.specs.Opens.{OpensNewest}
 use Rattle.lan_read.specs.Reasons.{Stands, StandsUnread}
@@ -46,7 +46,7 @@ use Rattle.lan_commit.specs.declared.committing.CommitFault.TheVariants as unmad
 use Rattle.lan_commit.proofs.LawTerms.{first_not_held, never_held}
 use Rattle.lan_scan.specs.declared.scanning.ScanFault.{ScanFault}
 use Rattle.lan_scan.specs.declared.scanning.ScanFault.TheVariants as unscanned
-use Rattle.lance_cli.specs.Causes.{Cause, Reads, StandsIn, IsOutside}
+use Rattle.lance_cli.specs.Causes.{Reads, StandsIn, IsOutside}
 use Rattle.lance_cli.specs.Changes.{Change}
 use Rattle.lance_cli.specs.Commands.{Asked, create, append, scan, schema, is_change, prints_rows, reads_version, Request}
 use Rattle.lance_cli.specs.Faults.{of_read, of_commit, of_scan}

@@ -1,5 +1,5 @@
 -- Why a command is refused, on the objects at its step: one word a fault.
-use Rattle.std.specs.Prelude.{◌≡◌, ℕ, ⊤, List, map, IsTrue, Option, Some, Result, Ok, Err}
+use Rattle.std.specs.Prelude.{◌≡◌, ℕ, ⊤, List, map, IsTrue, Option, Some, Ok, Err}
 use Rattle.std.specs.Option.{ForSome}
 use Rattle.lan_model.specs.Plain.{PlainField, PlainValue, unnumbered}
 use Rattle.lan_model.specs.Table.{Table}

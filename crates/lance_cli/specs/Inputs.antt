@@ -1,5 +1,5 @@
 -- What a command reads of the input.
-use Rattle.std.specs.Prelude.{◌≡◌, ℕ, ◌≤◌, ◌^◌, ⊤, Bool, true, false, List, [], ◌++◌, length, IsSomeAnd, Vec, Option, Some, Result, Ok, Err}
+use Rattle.std.specs.Prelude.{◌≡◌, ℕ, ◌≤◌, ◌^◌, Bool, true, false, List, [], length, Vec, Option, Some, Result, Ok, Err}
 use Rattle.std.specs.Option.{ForSome}
 use Rattle.std.specs.declared.alloc.Global.{Global}
 use Rattle.lan_store.specs.Streams.{TookOver, TookFront}

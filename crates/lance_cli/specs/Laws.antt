@@ -1,5 +1,5 @@
 -- Laws of runs.
-use Rattle.std.specs.Prelude.{◌≡◌, ◌⊎◌, ℕ, ◌≤◌, ⊤, true, List, ◌∷◌, ◌++◌, length, take, map, All, IsSome, Option, Some, Result, Ok, Err}
+use Rattle.std.specs.Prelude.{◌≡◌, ◌⊎◌, ℕ, ◌≤◌, ⊤, true, List, ◌++◌, length, take, map, All, IsSome, Option, Some, Result, Ok, Err}
 use Rattle.std.specs.Option.{ForSome}
 use Rattle.lan_model.specs.Dataset.{Dataset, table_at}
 use Rattle.lan_model.specs.Plain.{PlainValue, unnumbered}

@@ -1,5 +1,5 @@
 -- What a run of a list of commands does: its clauses, said of the chain and of what is behind it.
-use Rattle.std.specs.Prelude.{◌≡◌, ◌⊎◌, ℕ, ◌+◌, ◌^◌, ◌<◌, ◌≤◌, ⊤, Bool, true, false, cond, ◌&&◌, nat_lt, List, [], ◌∷◌, ◌++◌, length, take, map, IsTrue, IsSomeAnd, Option, Some, None, Result, Ok, Err, OnOk, IfErr}
+use Rattle.std.specs.Prelude.{◌≡◌, ◌⊎◌, ℕ, ◌^◌, ◌<◌, ◌≤◌, ⊤, Bool, true, false, cond, ◌&&◌, nat_lt, List, [], ◌∷◌, ◌++◌, length, take, map, IsTrue, IsSomeAnd, Option, Some, None, Result, Ok, Err, OnOk, IfErr}
 use Rattle.std.specs.Option.{ForSome}
 use Rattle.lan_model.specs.Dataset.{Dataset}
 use Rattle.lan_model.specs.Table.{Table}
@@ -10,7 +10,7 @@ use Rattle.lan_store.specs.declared.name.Object.{Object}
 use Rattle.lan_read.specs.Standing.{StandsAt, Agrees}
 use Rattle.lance_cli.specs.Chain.{Link, Chain, outcomes_of, puts_of, changes, IsFront}
 use Rattle.lance_cli.specs.Commands.{Asked, reads_input, prints_rows, Request}
-use Rattle.lance_cli.specs.Replies.{Told, refused, Mode, single, generate, said_by, text_by, texts, answer_to, left_after, replied, closing, Tells, asked_of}
+use Rattle.lance_cli.specs.Replies.{Told, refused, Mode, generate, said_by, text_by, texts, answer_to, left_after, replied, closing, Tells, asked_of}
 use Rattle.lance_cli.specs.Served.{Served}
 use Rattle.lance_cli.specs.Words.{ByWords}
 use Rattle.lance_cli.specs.Steps.{Step, Trail, requests_in, put_in, said_in}

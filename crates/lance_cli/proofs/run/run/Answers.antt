@@ -1,9 +1,9 @@
 use Rattle.std.proofs.Common.{sym}
 use Rattle.std.proofs.lemmas.Result.{err_from_is_err_and}
-use Rattle.lance_cli.specs.Commands.{asked_as, reads_input}
+use Rattle.lance_cli.specs.Commands.{asked_as}
 use Rattle.lance_cli.specs.Replies.{alone, asked_of}
 use Rattle.lance_cli.proofs.AskedFor.{none_by, asked_by}
-use Rattle.lance_cli.proofs.RunClauses.{served_kept, served_ran, served_done, served_stops, served_decided, moments_of, served_order, served_takes, takes_as, unread_of, unread_takes}
+use Rattle.lance_cli.proofs.RunClauses.{served_kept, served_ran, served_done, served_stops, served_decided, moments_of, served_order, takes_as, unread_of, unread_takes}
 use Rattle.lance_cli.proofs.run.run.Goals as goal
 
 pub returns-in_err-text-clause-input : goal.returns-in_err-text-clause-input

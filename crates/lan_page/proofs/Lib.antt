@@ -2,8 +2,10 @@ pub mod ConstantPieces
 pub mod Fetched
 pub mod GivenIndex
 pub mod LawTerms
+pub mod PageCuts
 pub mod PageLemmas
 pub mod Parts
 pub mod PlaceLemmas
 pub mod Refutes
 pub mod SlotLemmas
+pub mod ZipPages

@@ -2,7 +2,9 @@
 #![tactic(auto)]
 
 mod asking;
+mod building;
 mod cut;
+mod cutting;
 mod fault;
 mod fetching;
 mod giving;
@@ -10,6 +12,7 @@ pub mod laws;
 mod places;
 mod walk;
 
+pub use building::build;
 pub use cut::{PieceCut, RowCut};
 pub use fault::{PageFault, PageReason};
 pub use fetching::{fetch_index, fetch_piece, fetch_row};

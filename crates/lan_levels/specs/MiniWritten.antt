@@ -133,11 +133,11 @@ pub record ChunkPart : Type 0 where
   pub log : ℕ
   pub bytes : List ℕ
 
--- the parts are the chunks of the slots
+-- the parts are the chunks of the slots, of which each has some
 abbrev pub AreParts : ChunkKind → ChunkForm → List PlainSlot → List ChunkPart → Type 0
 AreParts kind f slots [] = slots ≡ []
 AreParts kind f slots (p ∷ ps) =
-    IsNext kind f slots p.log (length p.slots) × IsWrittenChunk kind f p.slots p.bytes × ((rest : List PlainSlot) × (slots ≡ p.slots ++ rest) × AreParts kind f rest ps)
+    (0 < length p.slots) × IsNext kind f slots p.log (length p.slots) × IsWrittenChunk kind f p.slots p.bytes × ((rest : List PlainSlot) × (slots ≡ p.slots ++ rest) × AreParts kind f rest ps)
 
 -- how many times eight bytes the chunk has, less one, above the four bits of the logarithm
 abbrev pub word_of : ChunkPart → ℕ

@@ -1,5 +1,5 @@
 -- A page that grows chunk by chunk.
-use Rattle.std.proofs.Common.{◌≡◌, ◌∙◌, ℕ, ◌+◌, ◌≤◌, Bool, true, false, cond, IsTrue, List, [], ◌∷◌, ◌++◌, length, All, refl, ap, ap₂, subst, sym, arith, append_assoc}
+use Rattle.std.proofs.Common.{◌≡◌, ◌∙◌, ℕ, ◌+◌, ◌<◌, ◌≤◌, Bool, true, false, cond, IsTrue, List, [], ◌∷◌, ◌++◌, length, All, refl, ap, ap₂, subst, sym, arith, append_assoc}
 use Rattle.std.specs.Prelude.{flat_map}
 use Rattle.std.proofs.lemmas.List.{append-nil}
 use Rattle.std.proofs.lemmas.Grind.{flat_map-append}
@@ -38,6 +38,7 @@ built_more f xs from at to cut old new le end c put b =
     let size = range_length xs at to le end in
     let within : at + n ≤ to = omega (arith, c.within) in
     let count : length (range xs at (at + n)) ≡ n = range_length xs at (at + n) (omega arith) (omega arith) ∙ omega arith in
+    let some : 0 < length (range xs at (at + n)) = omega (arith, c.some) in
     let part : ChunkPart = record { slots = range xs at (at + n); log = cut.log; bytes = put.bytes } in
     let next : IsNext small_chunks f (range xs at to) cut.log (length (range xs at (at + n))) = subst (IsNext small_chunks f (range xs at to) cut.log) (sym count) c.next in
     let split : range xs at to ≡ range xs at (at + n) ++ range xs (at + n) to = sym (range_join xs at (at + n) to (omega arith) within) in
@@ -46,7 +47,7 @@ built_more f xs from at to cut old new le end c put b =
     let content : ChunkPart → List ℕ = λ p. p.bytes in
     record {
       parts = b.parts ++ part ∷ [];
-      are = λ later h. subst (AreParts small_chunks f (range xs from to)) (sym (append_assoc b.parts (part ∷ []) later)) (b.are (part ∷ later) (next, put.is, (range xs (at + n) to, split, h)));
+      are = λ later h. subst (AreParts small_chunks f (range xs from to)) (sym (append_assoc b.parts (part ∷ []) later)) (b.are (part ∷ later) (some, next, put.is, (range xs (at + n) to, split, h)));
       words = each_more word b.parts part old.words new.words b.words put.words;
       content = each_more content b.parts part old.content new.content b.content put.content;
       index = λ t. each_more entry b.parts part old.index new.index (b.index t) (put.index t);

@@ -15,7 +15,7 @@ use Rattle.lan_mini.specs.Inverse.{ChunksAreRead}
 use Rattle.lan_mini.proofs.ChunkBack.{chunk_back}
 use Rattle.lan_mini.proofs.Leaves.{can_chunks}
 
-lists_few : (ls : List Layer) → lists_in ls ≤ length ls
+pub lists_few : (ls : List Layer) → lists_in ls ≤ length ls
 lists_few [] = omega arith
 lists_few (layer.Item n ∷ ls) = let more = lists_few ls in omega arith
 lists_few (layer.Struct n m ∷ ls) = let more = lists_few ls in omega arith
@@ -29,7 +29,7 @@ code_few (layer.Struct false m) k = omega arith
 code_few (layer.List true) k = omega arith
 code_few (layer.List false) k = omega arith
 
-states_few : (ls : List Layer) (k : ℕ) → length (states_from (map layer_code ls) k) ≤ 2 * length ls
+pub states_few : (ls : List Layer) (k : ℕ) → length (states_from (map layer_code ls) k) ≤ 2 * length ls
 states_few [] k = omega arith
 states_few (l ∷ ls) k = let one = code_few l k in let more = states_few ls (k + 1) in omega (arith, length-append (code_states (layer_code l) k) (states_from (map layer_code ls) (k + 1)))
 
@@ -39,7 +39,7 @@ buffer_few (buffered bools) n len = omega arith
 buffer_few (buffered variable) n len = omega arith
 buffer_few (always p) n len = omega arith
 
-stored_few : (f : ChunkForm) (slots : List PlainSlot) → chunk_size small_chunks f slots ≤ 32768 → stored_size f slots < 2 ^ 16
+pub stored_few : (f : ChunkForm) (slots : List PlainSlot) → chunk_size small_chunks f slots ≤ 32768 → stored_size f slots < 2 ^ 16
 stored_few f slots fits = let few = buffer_few f.values (length (carried f slots)) (values_len f.values (carried f slots)) in omega arith
 
 pub chunks_read : ChunksAreRead

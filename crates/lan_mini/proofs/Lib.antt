@@ -13,4 +13,6 @@ pub mod HeaderBack
 pub mod SlotsBack
 pub mod ChunkBack
 pub mod Inverse
+pub mod PartsBack
+pub mod PageBack
 pub mod Leaves

@@ -1,8 +1,8 @@
 -- What is written of a manifest is an object that stands for it.
 use Rattle.std.proofs.Common.{◌≡◌, ℕ, zero, suc, ◌+◌, ◌-◌, ◌%◌, ◌^◌, ◌<◌, ◌≤◌, Bool, true, false, List, [], ◌∷◌, ◌++◌, length, take, drop, map, Option, Some, None, refl, sym, ap, subst, ◌∙◌, append_assoc, append-nil, length-append, arith}
-use Rattle.std.specs.Prelude.{ℤ, negsuc, codes, flat_map, is_some, IsTrue, IfSome}
+use Rattle.std.specs.Prelude.{ℤ, negsuc, codes, flat_map, option_map, IsTrue, IfSome}
 use Rattle.std.specs.Int.{w16, w32, w64, to_le_bytes, from_le_bytes}
-use Rattle.std.specs.List.{list_any, AllByRecursion}
+use Rattle.std.specs.List.{AllByRecursion}
 use Rattle.std.specs.Str.{is_utf8}
 use Rattle.std.proofs.lemmas.List.Folds.{flat_map-map}
 use Rattle.std.proofs.lemmas.Nat.{from_le_bytes-to_le_bytes_4}
@@ -14,8 +14,8 @@ use Rattle.lan_wire.specs.Readers.{IsInt32}
 use Rattle.lan_wire.specs.Rules.{Rules, open_to}
 use Rattle.lan_wire.specs.Spelling.{part_item, num_item, num_field, part_field, packed_field, two_complement}
 use Rattle.lan_wire.specs.Values.{parts_under}
-use Rattle.lan_wire.specs.Written.{WrittenField, num, present, text, packed, parts, flag_number, with_spellings, spelling_of, CanWriteAll, AreShort, about, items_placed}
-use Rattle.lan_wire.proofs.LawTerms.{written_read, all_short, num_back, small_back, maybe_small_back, maybe_small_absent, text_back, part_absent, parts_back, signeds_back}
+use Rattle.lan_wire.specs.Written.{WrittenField, num, present, text, part, packed, parts, flag_number, with_spellings, spelling_of, CanWriteAll, AreShort, about, items_placed}
+use Rattle.lan_wire.proofs.LawTerms.{written_read, all_short, num_back, small_back, maybe_small_back, maybe_small_absent, text_back, part_back, part_absent, parts_back, signeds_back}
 use Rattle.lan_wire.proofs.WrittenValues.{complements_below, complements_fit}
 use Rattle.lan_schema.specs.FieldMessages.{listing}
 use Rattle.lan_schema.specs.FieldsOf.{FieldsOf}
@@ -26,12 +26,13 @@ use Rattle.lan_manifest.specs.declared.manifest.DataFile.{DataFile}
 use Rattle.lan_manifest.specs.declared.manifest.Deletion.{Deletion}
 use Rattle.lan_manifest.specs.declared.manifest.Fragment.{Fragment}
 use Rattle.lan_manifest.specs.declared.said.SaidFile.{SaidFile}
+use Rattle.lan_manifest.specs.declared.said.SaidDeletion.{SaidDeletion}
 use Rattle.lan_manifest.specs.declared.said.SaidFragment.{SaidFragment}
 use Rattle.lan_manifest.specs.declared.said.SaidManifest.{SaidManifest}
-use Rattle.lan_manifest.specs.declared.said.TheConstants.{MANIFEST, DATA_FRAGMENT, ROW_IDS, DATA_FILE}
+use Rattle.lan_manifest.specs.declared.said.TheConstants.{MANIFEST, DATA_FRAGMENT, ROW_IDS, DATA_FILE, DELETION_FILE}
 use Rattle.lan_manifest.specs.Frame.{IsFramed, place_in, length_in}
-use Rattle.lan_manifest.specs.ManifestMessages.{SaysFile, SaysFragment, SaysManifest}
-use Rattle.lan_manifest.specs.ManifestObjects.{KeepsRules, fragment_of, StandsForManifest, IsManifestObject}
+use Rattle.lan_manifest.specs.ManifestMessages.{SaysFile, SaysDeletion, SaysFragment, SaysManifest}
+use Rattle.lan_manifest.specs.ManifestObjects.{unknown_flags, KeepsRules, fragment_of, StandsForManifest, IsManifestObject}
 use Rattle.lan_manifest.specs.Manifests.{PlainManifest, complements, file_text, deletion_text, fragment_text, greatest_text, has_deletions, manifest_text, framed}
 use Rattle.lan_manifest.specs.SchemaLeaves.{shape_of}
 
@@ -98,68 +99,138 @@ files_back (p ∷ ps) (f ∷ fs) e fit short =
     let rest : map (λ (q : Placed). q.bytes) ps ≡ map file_text fs = cc in
     (said_file f, map said_file fs, refl, subst (λ (b : List ℕ). SaysFile (record { base = p.base; bytes = b }) (said_file f)) (sym bytes) (file_back p.base f fit.0 short.0), files_back ps fs rest fit.1 short.1)
 
+-- ---- deletion files
+
+-- a deletion file as its message says it
+abbrev pub said_deletion : Deletion → SaidDeletion
+said_deletion d = record { kind = 0; deletion = d }
+
+abbrev deletion_fields : Deletion → List WrittenField
+deletion_fields d = (1, num 0) ∷ (2, num d.read_version) ∷ (3, num d.id) ∷ (4, num d.rows) ∷ []
+
+-- a deletion file that can be written
+pub record DeletionFits (d : Deletion) : Type 0 where
+  pub read_version : d.read_version < 2 ^ 64
+  pub id : d.id < 2 ^ 64
+  pub rows : d.rows < 2 ^ 64
+
+abbrev pub DeletionsFit : Option Deletion → Type 0
+DeletionsFit None = Unit {0}
+DeletionsFit (Some d) = DeletionFits d
+
+can_deletion : (d : Deletion) → DeletionFits d → CanWriteAll (open_to DELETION_FILE) [] (deletion_fields d)
+can_deletion d is = (
+  record { low = omega arith; up = omega arith; room = refl; spells = omega arith; fits = tt },
+  (
+    record { low = omega arith; up = omega arith; room = refl; spells = is.read_version; fits = tt },
+    (
+      record { low = omega arith; up = omega arith; room = refl; spells = is.id; fits = tt },
+      (record { low = omega arith; up = omega arith; room = refl; spells = is.rows; fits = tt }, tt),
+    ),
+  ),
+)
+
+deletion_back : (at : ℕ) (d : Deletion) → DeletionFits d → length (spelling_of (deletion_fields d)) < 2 ^ 64 → SaysDeletion (record { base = at; bytes = spelling_of (deletion_fields d) }) (said_deletion d)
+deletion_back at d is small =
+    let fields = deletion_fields d in
+    let kind = num_back 1 at fields 0 refl in
+    let read_version = num_back 2 at fields d.read_version refl in
+    let id = num_back 3 at fields d.id refl in
+    let rows = num_back 4 at fields d.rows refl in
+    record {
+      items = items_placed at fields;
+      reads = written_read (open_to DELETION_FILE) at fields (can_deletion d is) (all_short fields small);
+      said = sym (λ i. record { kind = kind i; deletion = record { read_version = read_version i; id = id i; rows = rows i } });
+    }
+
 -- ---- fragments
 
 -- a fragment as its message says it
 abbrev pub said_fragment : Fragment → SaidFragment
-said_fragment f = record { id = f.id; files = map said_file f.files; deletion = None; rows = f.rows; row_ids = false }
+said_fragment f = record { id = f.id; files = map said_file f.files; deletion = option_map said_deletion f.deletion; rows = f.rows; row_ids = false }
 
-abbrev fragment_fields : Fragment → List WrittenField
-fragment_fields f = (1, num f.id) ∷ (2, parts (map file_text f.files)) ∷ (4, num f.rows) ∷ []
+-- the rows, behind the deletion file if there is one
+abbrev last_fields : Option Deletion → ℕ → List WrittenField
+last_fields None rows = (4, num rows) ∷ []
+last_fields (Some d) rows = (3, part (spelling_of (deletion_fields d))) ∷ (4, num rows) ∷ []
+
+abbrev fragment_fields : ℕ → List DataFile → Option Deletion → ℕ → List WrittenField
+fragment_fields id files deletion rows = (1, num id) ∷ (2, parts (map file_text files)) ∷ last_fields deletion rows
 
 -- a fragment that can be written
 pub record FragmentFits (f : Fragment) : Type 0 where
   pub id : f.id < 2 ^ 64
   pub rows : f.rows < 2 ^ 64
   pub files : AllByRecursion FileFits f.files
-  pub none_deleted : f.deletion ≡ None
+  pub deletion : DeletionsFit f.deletion
 
-fragment_spelled : (f : Fragment) → f.deletion ≡ None → fragment_text f ≡ spelling_of (fragment_fields f)
-fragment_spelled f none =
-    let id = num_field 1 f.id in
-    let files = flat_map (λ file. part_item 2 (file_text file)) f.files in
-    let rows = num_field 4 f.rows in
-    ap (λ (d : Option Deletion). id ++ files ++ deletion_text d ++ rows) none
-    ∙ ap (λ (l : List ℕ). l ++ rows) (append-nil (id ++ files))
-    ∙ ap (λ (l : List ℕ). id ++ l ++ rows) (sym (flat_map-map (λ (bytes : List ℕ). part_item 2 bytes) file_text f.files))
+fragment_spelled : (id : ℕ) (files : List DataFile) (deletion : Option Deletion) (rows : ℕ)
+    → num_field 1 id ++ flat_map (λ file. part_item 2 (file_text file)) files ++ deletion_text deletion ++ num_field 4 rows ≡ spelling_of (fragment_fields id files deletion rows)
+fragment_spelled id files None rows =
+    let last = num_field 4 rows in
+    ap (λ (l : List ℕ). l ++ last) (append-nil (num_field 1 id ++ flat_map (λ file. part_item 2 (file_text file)) files))
+    ∙ ap (λ (l : List ℕ). num_field 1 id ++ l ++ last) (sym (flat_map-map (λ (bytes : List ℕ). part_item 2 bytes) file_text files))
+fragment_spelled id files (Some d) rows = ap (λ (l : List ℕ). num_field 1 id ++ l ++ deletion_text (Some d) ++ num_field 4 rows) (sym (flat_map-map (λ (bytes : List ℕ). part_item 2 bytes) file_text files))
 
-can_fragment : (f : Fragment) → FragmentFits f → CanWriteAll (open_to DATA_FRAGMENT) [] (fragment_fields f)
-can_fragment f is = (
-  record { low = omega arith; up = omega arith; room = refl; spells = is.id; fits = tt },
-  (
-    record { low = omega arith; up = omega arith; room = refl; spells = tt; fits = tt },
-    (record { low = omega arith; up = omega arith; room = refl; spells = is.rows; fits = tt }, tt),
-  ),
+can_last : (deletion : Option Deletion) (rows : ℕ) → rows < 2 ^ 64 → CanWriteAll (open_to DATA_FRAGMENT) (1 ∷ 2 ∷ []) (last_fields deletion rows)
+can_last None rows few = (record { low = omega arith; up = omega arith; room = refl; spells = few; fits = tt }, tt)
+can_last (Some d) rows few = (record { low = omega arith; up = omega arith; room = refl; spells = tt; fits = tt }, (record { low = omega arith; up = omega arith; room = refl; spells = few; fits = tt }, tt))
+
+can_last_beside : (deletion : Option Deletion) (rows : ℕ) → rows < 2 ^ 64 → CanWriteAll (open_to ROW_IDS) (1 ∷ 2 ∷ []) (last_fields deletion rows)
+can_last_beside None rows few = (record { low = omega arith; up = omega arith; room = refl; spells = few; fits = tt }, tt)
+can_last_beside (Some d) rows few = (record { low = omega arith; up = omega arith; room = refl; spells = tt; fits = tt }, (record { low = omega arith; up = omega arith; room = refl; spells = few; fits = tt }, tt))
+
+can_fragment : (id : ℕ) (files : List DataFile) (deletion : Option Deletion) (rows : ℕ) → id < 2 ^ 64 → rows < 2 ^ 64 → CanWriteAll (open_to DATA_FRAGMENT) [] (fragment_fields id files deletion rows)
+can_fragment id files deletion rows small few = (
+  record { low = omega arith; up = omega arith; room = refl; spells = small; fits = tt },
+  (record { low = omega arith; up = omega arith; room = refl; spells = tt; fits = tt }, can_last deletion rows few),
 )
 
-without_row_ids : (f : Fragment) → FragmentFits f → CanWriteAll (open_to ROW_IDS) [] (fragment_fields f)
-without_row_ids f is = (
-  record { low = omega arith; up = omega arith; room = refl; spells = is.id; fits = tt },
-  (
-    record { low = omega arith; up = omega arith; room = refl; spells = tt; fits = tt },
-    (record { low = omega arith; up = omega arith; room = refl; spells = is.rows; fits = tt }, tt),
-  ),
+without_row_ids : (id : ℕ) (files : List DataFile) (deletion : Option Deletion) (rows : ℕ) → id < 2 ^ 64 → rows < 2 ^ 64 → CanWriteAll (open_to ROW_IDS) [] (fragment_fields id files deletion rows)
+without_row_ids id files deletion rows small few = (
+  record { low = omega arith; up = omega arith; room = refl; spells = small; fits = tt },
+  (record { low = omega arith; up = omega arith; room = refl; spells = tt; fits = tt }, can_last_beside deletion rows few),
 )
+
+says_fragment : (at id : ℕ) (files : List DataFile) (deletion : Option Deletion) (rows : ℕ) → id < 2 ^ 64 → rows < 2 ^ 64 → AllByRecursion FileFits files → DeletionsFit deletion → AreShort (fragment_fields id files deletion rows)
+    → SaysFragment (record { base = at; bytes = spelling_of (fragment_fields id files deletion rows) }) (said_fragment (record { id = id; files = files; deletion = deletion; rows = rows }))
+says_fragment at id files None rows small few fit is short =
+    let fields = fragment_fields id files None rows in (
+      record {
+        items = items_placed at fields;
+        reads = written_read (open_to DATA_FRAGMENT) at fields (can_fragment id files None rows small few) short;
+        said = record {
+          id = sym (num_back 1 at fields id refl);
+          files = files_back (parts_under 2 (items_placed at fields)) files (parts_back 2 at fields (map file_text files) refl) fit short.1.0;
+          deletion = part_absent 3 at fields refl;
+          rows = sym (num_back 4 at fields rows refl);
+        };
+      },
+      (items_placed at fields, written_read (open_to ROW_IDS) at fields (without_row_ids id files None rows small few) short),
+    )
+says_fragment at id files (Some d) rows small few fit is short =
+    let fields = fragment_fields id files (Some d) rows in
+    let bytes = spelling_of (deletion_fields d) in
+    let there = part_back 3 at fields bytes refl in (
+      record {
+        items = items_placed at fields;
+        reads = written_read (open_to DATA_FRAGMENT) at fields (can_fragment id files (Some d) rows small few) short;
+        said = record {
+          id = sym (num_back 1 at fields id refl);
+          files = files_back (parts_under 2 (items_placed at fields)) files (parts_back 2 at fields (map file_text files) refl) fit short.1.0;
+          deletion = record { part = record { base = there.0; bytes = bytes }; said = there.1; holds = deletion_back there.0 d is short.1.1.0 };
+          rows = sym (num_back 4 at fields rows refl);
+        };
+      },
+      (items_placed at fields, written_read (open_to ROW_IDS) at fields (without_row_ids id files (Some d) rows small few) short),
+    )
 
 fragment_back : (at : ℕ) (f : Fragment) → FragmentFits f → length (fragment_text f) < 2 ^ 64 → SaysFragment (record { base = at; bytes = fragment_text f }) (said_fragment f)
 fragment_back at f is small =
-    let fields = fragment_fields f in
-    let spelled = fragment_spelled f is.none_deleted in
+    let fields = fragment_fields f.id f.files f.deletion f.rows in
+    let spelled : fragment_text f ≡ spelling_of fields = fragment_spelled f.id f.files f.deletion f.rows in
     let short = all_short fields (omega (arith, small, ap length spelled)) in
-    let says : SaysFragment (record { base = at; bytes = spelling_of fields }) (said_fragment f) = (
-      record {
-        items = items_placed at fields;
-        reads = written_read (open_to DATA_FRAGMENT) at fields (can_fragment f is) short;
-        said = record {
-          id = sym (num_back 1 at fields f.id refl);
-          files = files_back (parts_under 2 (items_placed at fields)) f.files (parts_back 2 at fields (map file_text f.files) refl) is.files short.1.0;
-          deletion = part_absent 3 at fields refl;
-          rows = sym (num_back 4 at fields f.rows refl);
-        };
-      },
-      (items_placed at fields, written_read (open_to ROW_IDS) at fields (without_row_ids f is) short),
-    ) in
-    subst (λ (bytes : List ℕ). SaysFragment (record { base = at; bytes = bytes }) (said_fragment f)) (sym spelled) says
+    subst (λ (bytes : List ℕ). SaysFragment (record { base = at; bytes = bytes }) (said_fragment f)) (sym spelled) (says_fragment at f.id f.files f.deletion f.rows is.id is.rows is.files is.deletion short)
 
 fragments_back : (messages : List Placed) (fs : List Fragment) → map (λ (p : Placed). p.bytes) messages ≡ map fragment_text fs → AllByRecursion FragmentFits fs → AllByRecursion (λ (bytes : List ℕ). length bytes < 2 ^ 64) (map fragment_text fs)
     → ReadEach SaysFragment messages (map said_fragment fs)
@@ -171,10 +242,6 @@ fragments_back (p ∷ ps) (f ∷ fs) e fit short =
     let rest : map (λ (q : Placed). q.bytes) ps ≡ map fragment_text fs = cc in
     (said_fragment f, map said_fragment fs, refl, subst (λ (b : List ℕ). SaysFragment (record { base = p.base; bytes = b }) (said_fragment f)) (sym bytes) (fragment_back p.base f fit.0 short.0), fragments_back ps fs rest fit.1 short.1)
 
-none_deleted : (fs : List Fragment) → AllByRecursion FragmentFits fs → list_any (λ f. is_some f.deletion) fs ≡ false
-none_deleted [] fit = refl
-none_deleted (f ∷ fs) fit = rw (fit.0.none_deleted) (none_deleted fs fit.1)
-
 -- ---- the message
 
 abbrev greatest_fields : Option ℕ → List WrittenField
@@ -182,8 +249,17 @@ greatest_fields None = []
 greatest_fields (Some id) = (11, present id) ∷ []
 
 -- what is written behind the fields
-abbrev other_fields : List Fragment → ℕ → Option ℕ → List WrittenField
-other_fields fs version greatest = (2, parts (map fragment_text fs)) ∷ (3, num version) ∷ (9, num 0) ∷ (10, num 0) ∷ greatest_fields greatest
+abbrev other_fields : List Fragment → ℕ → Bool → Option ℕ → List WrittenField
+other_fields fs version deletions greatest = (2, parts (map fragment_text fs)) ∷ (3, num version) ∷ (9, num (flag_number deletions)) ∷ (10, num (flag_number deletions)) ∷ greatest_fields greatest
+
+flag_fits : (b : Bool) → flag_number b < 2 ^ 64
+flag_fits true = omega arith
+flag_fits false = omega arith
+
+-- the writer's flags are known
+pub flag_known : (b : Bool) → unknown_flags (flag_number b) ≡ 0
+flag_known true = refl
+flag_known false = refl
 
 can_greatest : (greatest : Option ℕ) → IfSome greatest (λ id. id < 2 ^ 32) → CanWriteAll (open_to MANIFEST) (1 ∷ 2 ∷ 3 ∷ 9 ∷ 10 ∷ []) (greatest_fields greatest)
 can_greatest None fits = tt
@@ -193,37 +269,37 @@ can_greatest_beside : (greatest : Option ℕ) → IfSome greatest (λ id. id < 2
 can_greatest_beside None fits = tt
 can_greatest_beside (Some id) fits = (record { low = omega arith; up = omega arith; room = refl; spells = omega (arith, fits); fits = tt }, tt)
 
-can_others : (fs : List Fragment) (version : ℕ) (greatest : Option ℕ) → version < 2 ^ 64 → IfSome greatest (λ id. id < 2 ^ 32) → CanWriteAll (open_to MANIFEST) (1 ∷ []) (other_fields fs version greatest)
-can_others fs version greatest few fits = (
+can_others : (fs : List Fragment) (version : ℕ) (deletions : Bool) (greatest : Option ℕ) → version < 2 ^ 64 → IfSome greatest (λ id. id < 2 ^ 32) → CanWriteAll (open_to MANIFEST) (1 ∷ []) (other_fields fs version deletions greatest)
+can_others fs version deletions greatest few fits = (
   record { low = omega arith; up = omega arith; room = refl; spells = tt; fits = tt },
   (
     record { low = omega arith; up = omega arith; room = refl; spells = few; fits = tt },
     (
-      record { low = omega arith; up = omega arith; room = refl; spells = omega arith; fits = tt },
-      (record { low = omega arith; up = omega arith; room = refl; spells = omega arith; fits = tt }, can_greatest greatest fits),
+      record { low = omega arith; up = omega arith; room = refl; spells = flag_fits deletions; fits = tt },
+      (record { low = omega arith; up = omega arith; room = refl; spells = flag_fits deletions; fits = tt }, can_greatest greatest fits),
     ),
   ),
 )
 
-can_beside : (fs : List Fragment) (version : ℕ) (greatest : Option ℕ) → version < 2 ^ 64 → IfSome greatest (λ id. id < 2 ^ 32) → CanWriteAll (listing 1) (1 ∷ []) (other_fields fs version greatest)
-can_beside fs version greatest few fits = (
+can_beside : (fs : List Fragment) (version : ℕ) (deletions : Bool) (greatest : Option ℕ) → version < 2 ^ 64 → IfSome greatest (λ id. id < 2 ^ 32) → CanWriteAll (listing 1) (1 ∷ []) (other_fields fs version deletions greatest)
+can_beside fs version deletions greatest few fits = (
   record { low = omega arith; up = omega arith; room = refl; spells = tt; fits = tt },
   (
     record { low = omega arith; up = omega arith; room = refl; spells = few; fits = tt },
     (
-      record { low = omega arith; up = omega arith; room = refl; spells = omega arith; fits = tt },
-      (record { low = omega arith; up = omega arith; room = refl; spells = omega arith; fits = tt }, can_greatest_beside greatest fits),
+      record { low = omega arith; up = omega arith; room = refl; spells = flag_fits deletions; fits = tt },
+      (record { low = omega arith; up = omega arith; room = refl; spells = flag_fits deletions; fits = tt }, can_greatest_beside greatest fits),
     ),
   ),
 )
 
-no_more_fields : (fs : List Fragment) (version : ℕ) (greatest : Option ℕ) → about 1 (other_fields fs version greatest) ≡ []
-no_more_fields fs version None = refl
-no_more_fields fs version (Some id) = refl
+no_more_fields : (fs : List Fragment) (version : ℕ) (deletions : Bool) (greatest : Option ℕ) → about 1 (other_fields fs version deletions greatest) ≡ []
+no_more_fields fs version deletions None = refl
+no_more_fields fs version deletions (Some id) = refl
 
 -- a manifest as its message says it
 abbrev pub said_manifest : PlainManifest → SaidManifest
-said_manifest m = record { fragments = map said_fragment m.fragments; version = m.version; flags = 0; greatest = m.greatest }
+said_manifest m = record { fragments = map said_fragment m.fragments; version = m.version; flags = flag_number (has_deletions m); greatest = m.greatest }
 
 -- a manifest that can be written
 pub record ManifestFits (m : PlainManifest) : Type 0 where
@@ -233,48 +309,50 @@ pub record ManifestFits (m : PlainManifest) : Type 0 where
   pub greatest : IfSome m.greatest (λ id. id < 2 ^ 32)
   pub short : length (manifest_text m) < 2 ^ 32
 
-says_all : (at : ℕ) (texts : List (List ℕ)) (fs : List Fragment) (version : ℕ) (greatest : Option ℕ) → AllByRecursion FragmentFits fs → version < 2 ^ 64 → IfSome greatest (λ id. id < 2 ^ 32) → AreShort ((1, parts texts) ∷ other_fields fs version greatest)
-    → SaysManifest (record { base = at; bytes = spelling_of ((1, parts texts) ∷ other_fields fs version greatest) }) (record { fragments = map said_fragment fs; version = version; flags = 0; greatest = greatest })
-says_all at texts fs version None fit few fits short =
-    let fields : List WrittenField = (1, parts texts) ∷ other_fields fs version None in
+says_all : (at : ℕ) (texts : List (List ℕ)) (fs : List Fragment) (version : ℕ) (deletions : Bool) (greatest : Option ℕ) → AllByRecursion FragmentFits fs → version < 2 ^ 64 → IfSome greatest (λ id. id < 2 ^ 32) → AreShort ((1, parts texts) ∷ other_fields fs version deletions greatest)
+    → SaysManifest (record { base = at; bytes = spelling_of ((1, parts texts) ∷ other_fields fs version deletions greatest) }) (record { fragments = map said_fragment fs; version = version; flags = flag_number deletions; greatest = greatest })
+says_all at texts fs version deletions None fit few fits short =
+    let fields : List WrittenField = (1, parts texts) ∷ other_fields fs version deletions None in
     record {
       items = items_placed at fields;
-      reads = written_read (open_to MANIFEST) at fields (record { low = omega arith; up = omega arith; room = refl; spells = tt; fits = tt }, can_others fs version None few fits) short;
+      reads = written_read (open_to MANIFEST) at fields (record { low = omega arith; up = omega arith; room = refl; spells = tt; fits = tt }, can_others fs version deletions None few fits) short;
       said = record {
         fragments = fragments_back (parts_under 2 (items_placed at fields)) fs (parts_back 2 at fields (map fragment_text fs) refl) fit short.1.0;
         version = sym (num_back 3 at fields version refl);
-        flags = sym (num_back 9 at fields 0 refl);
+        flags = sym (num_back 9 at fields (flag_number deletions) refl);
         greatest = sym (maybe_small_absent 11 at fields refl);
       };
     }
-says_all at texts fs version (Some id) fit few fits short =
-    let fields : List WrittenField = (1, parts texts) ∷ other_fields fs version (Some id) in
+says_all at texts fs version deletions (Some id) fit few fits short =
+    let fields : List WrittenField = (1, parts texts) ∷ other_fields fs version deletions (Some id) in
     record {
       items = items_placed at fields;
-      reads = written_read (open_to MANIFEST) at fields (record { low = omega arith; up = omega arith; room = refl; spells = tt; fits = tt }, can_others fs version (Some id) few fits) short;
+      reads = written_read (open_to MANIFEST) at fields (record { low = omega arith; up = omega arith; room = refl; spells = tt; fits = tt }, can_others fs version deletions (Some id) few fits) short;
       said = record {
         fragments = fragments_back (parts_under 2 (items_placed at fields)) fs (parts_back 2 at fields (map fragment_text fs) refl) fit short.1.0;
         version = sym (num_back 3 at fields version refl);
-        flags = sym (num_back 9 at fields 0 refl);
+        flags = sym (num_back 9 at fields (flag_number deletions) refl);
         greatest = sym (maybe_small_back 11 at fields id fits refl);
       };
     }
 
-nils : (x : List ℕ) → x ++ [] ++ [] ≡ x
-nils x = append-nil (x ++ []) ∙ append-nil x
+in_turn : (a b c d e : List ℕ) → a ++ (b ++ (c ++ (d ++ e))) ≡ a ++ b ++ c ++ d ++ e
+in_turn a b c d e = sym (append_assoc a b (c ++ (d ++ e))) ∙ sym (append_assoc (a ++ b) c (d ++ e)) ∙ sym (append_assoc (a ++ b ++ c) d e)
 
-in_turn : (a b c : List ℕ) (greatest : Option ℕ) → a ++ (b ++ (c ++ greatest_text greatest)) ≡ with_spellings (a ++ b ++ c ++ [] ++ []) (greatest_fields greatest)
-in_turn a b c None = ap (λ (l : List ℕ). a ++ (b ++ l)) (append-nil c) ∙ sym (append_assoc a b c) ∙ sym (nils (a ++ b ++ c))
-in_turn a b c (Some id) = sym (append_assoc a b (c ++ num_item 11 id)) ∙ sym (append_assoc (a ++ b) c (num_item 11 id)) ∙ ap (λ (l : List ℕ). l ++ num_item 11 id) (sym (nils (a ++ b ++ c)))
+greatest_last : (a b c d e : List ℕ) (greatest : Option ℕ) → a ++ (b ++ (c ++ (d ++ (e ++ greatest_text greatest)))) ≡ with_spellings (a ++ b ++ c ++ d ++ e) (greatest_fields greatest)
+greatest_last a b c d e None = ap (λ (l : List ℕ). a ++ (b ++ (c ++ (d ++ l)))) (append-nil e) ∙ in_turn a b c d e
+greatest_last a b c d e (Some id) = in_turn a b c d (e ++ num_item 11 id) ∙ sym (append_assoc (a ++ b ++ c ++ d) e (num_item 11 id))
 
-message_spelled : (m : PlainManifest) → AllByRecursion FragmentFits m.fragments → manifest_text m ≡ with_spellings (all_messages 1 (negsuc 0) (fields_from m.fields)) (other_fields m.fragments m.version m.greatest)
+message_spelled : (m : PlainManifest) → manifest_text m ≡ with_spellings (all_messages 1 (negsuc 0) (fields_from m.fields)) (other_fields m.fragments m.version (has_deletions m) m.greatest)
 unfolding manifest_text
-message_spelled m fit =
+message_spelled m =
     let front = all_messages 1 (negsuc 0) (fields_from m.fields) in
-    let flags : has_deletions m ≡ false = none_deleted m.fragments fit in
     let fragments = sym (flat_map-map (λ (bytes : List ℕ). part_item 2 bytes) fragment_text m.fragments) in
-    (λ i. front ++ (fragments i ++ (num_field 3 m.version ++ (num_field 9 (flag_number (flags i)) ++ (num_field 10 (flag_number (flags i)) ++ greatest_text m.greatest)))))
-    ∙ in_turn front (flat_map (λ (bytes : List ℕ). part_item 2 bytes) (map fragment_text m.fragments)) (num_field 3 m.version) m.greatest
+    let version = num_field 3 m.version in
+    let reader = num_field 9 (flag_number (has_deletions m)) in
+    let writer = num_field 10 (flag_number (has_deletions m)) in
+    (λ i. front ++ (fragments i ++ (version ++ (reader ++ (writer ++ greatest_text m.greatest)))))
+    ∙ greatest_last front (flat_map (λ (bytes : List ℕ). part_item 2 bytes) (map fragment_text m.fragments)) version reader writer m.greatest
 
 -- ---- the frame
 
@@ -334,19 +412,20 @@ pub object_back : (at version : ℕ) (m : PlainManifest) → ManifestFits m → 
 object_back at version m fits numbered keeps same =
     let place = at + 4 in
     let texts = messages_of 1 (fields_from m.fields) fits.fields in
-    let others = other_fields m.fragments m.version m.greatest in
+    let deletions = has_deletions m in
+    let others = other_fields m.fragments m.version deletions m.greatest in
     let fields : List WrittenField = (1, parts texts.0) ∷ others in
-    let whole : spelling_of fields ≡ manifest_text m = ap (λ (b : List ℕ). with_spellings b others) (sym texts.1) ∙ sym (message_spelled m fits.fragments) in
+    let whole : spelling_of fields ≡ manifest_text m = ap (λ (b : List ℕ). with_spellings b others) (sym texts.1) ∙ sym (message_spelled m) in
     let short = all_short fields (omega (arith, fits.short, ap length whole)) in
-    let says = says_all place texts.0 m.fragments m.version m.greatest fits.fragments fits.version fits.greatest short in
-    let trees = written_before place 1 (fields_from m.fields) others fits.fields (no_more_fields m.fragments m.version m.greatest) (can_beside m.fragments m.version m.greatest fits.version fits.greatest) short.1 in
+    let says = says_all place texts.0 m.fragments m.version deletions m.greatest fits.fragments fits.version fits.greatest short in
+    let trees = written_before place 1 (fields_from m.fields) others fits.fields (no_more_fields m.fragments m.version deletions m.greatest) (can_beside m.fragments m.version deletions m.greatest fits.version fits.greatest) short.1 in
     record {
       message = record { base = place; bytes = manifest_text m };
       framed = framed_is at (manifest_text m) fits.short;
       stands = record {
         whole = said_manifest m;
         said = subst (λ (b : List ℕ). SaysManifest (record { base = place; bytes = b }) (said_manifest m)) whole says;
-        fields = subst (λ (b : List ℕ). FieldsOf (record { base = place; bytes = b }) 1 (fields_from m.fields)) (sym (message_spelled m fits.fragments)) trees;
+        fields = subst (λ (b : List ℕ). FieldsOf (record { base = place; bytes = b }) 1 (fields_from m.fields)) (sym (message_spelled m)) trees;
         keeps = keeps;
         fragments = sym same;
         numbered = numbered;
@@ -358,11 +437,15 @@ files_again : (fs : List DataFile) → map (λ (s : SaidFile). s.file) (map said
 files_again [] = refl
 files_again (f ∷ fs) = ap (λ (gs : List DataFile). f ∷ gs) (files_again fs)
 
--- what is written of fragments is they again
-pub fragments_again : (fs : List Fragment) → AllByRecursion FragmentFits fs → map fragment_of (map said_fragment fs) ≡ fs
-fragments_again [] fit = refl
-fragments_again (f ∷ fs) fit =
+deletion_again : (d : Option Deletion) → option_map (λ (e : SaidDeletion). e.deletion) (option_map said_deletion d) ≡ d
+deletion_again None = refl
+deletion_again (Some d) = refl
+
+-- what is said of fragments are they again
+pub fragments_again : (fs : List Fragment) → map fragment_of (map said_fragment fs) ≡ fs
+fragments_again [] = refl
+fragments_again (f ∷ fs) =
     let files = files_again f.files in
-    let none : None ≡ f.deletion = sym fit.0.none_deleted in
-    let first : fragment_of (said_fragment f) ≡ f = λ i. record { id = f.id; files = files i; deletion = none i; rows = f.rows } in
-    λ i. first i ∷ fragments_again fs fit.1 i
+    let deletion = deletion_again f.deletion in
+    let first : fragment_of (said_fragment f) ≡ f = λ i. record { id = f.id; files = files i; deletion = deletion i; rows = f.rows } in
+    λ i. first i ∷ fragments_again fs i

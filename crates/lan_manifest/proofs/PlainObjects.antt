@@ -21,14 +21,14 @@ use Rattle.lan_manifest.specs.declared.said.SaidFile.{SaidFile}
 use Rattle.lan_manifest.specs.declared.schema.Top.{Top}
 use Rattle.lan_manifest.specs.FragmentRules.{lists_fit, is_current, is_whole, may_lack, Keeps, KeepEach, has_id, HaveIds}
 use Rattle.lan_manifest.specs.ManifestObjects.{KeepsRules, IsManifestObject}
-use Rattle.lan_manifest.specs.Manifests.{PlainManifest, manifest_text, framed}
+use Rattle.lan_manifest.specs.Manifests.{PlainManifest, has_deletions, manifest_text, framed}
 use Rattle.lan_manifest.specs.Readable.{one_file, one_fragment}
 use Rattle.lan_manifest.specs.Reads.{IsPath, IsFile, ManifestOf}
 use Rattle.lan_manifest.specs.SchemaLeaves.{LeafShape, is_listed, shape_of}
 use Rattle.lan_manifest.specs.Stage.{IsOneFile}
 use Rattle.lan_manifest.proofs.ColumnItems.{told}
 use Rattle.lan_manifest.proofs.FragmentItems.{path_is_text}
-use Rattle.lan_manifest.proofs.ObjectBack.{said_file, FileFits, said_fragment, FragmentFits, said_manifest, ManifestFits, framed_long, object_back, fragments_again}
+use Rattle.lan_manifest.proofs.ObjectBack.{said_file, FileFits, said_fragment, FragmentFits, said_manifest, ManifestFits, framed_long, flag_known, object_back, fragments_again}
 use Rattle.lan_manifest.proofs.OneManifest.{none_is, column_in}
 use Rattle.lan_manifest.proofs.WrittenAgain.{front_short}
 
@@ -94,7 +94,7 @@ keep_each (rule ∷ rules) fs plains small = (All-map (Keeps rule column_shape) 
 fits : (f : Fragment) → IsPlain f → f.id < 2 ^ 32 → f.rows < 2 ^ 31 → FragmentFits f
 fits f p id rows =
     let file : FileFits (one_file p.path) = record { path = path_is_text p.path p.is_path; ids = (omega arith, tt); columns = (omega arith, tt) } in
-    subst (λ (g : Fragment). FragmentFits g) p.is (record { id = omega (arith, id); rows = omega (arith, rows); files = (file, tt); none_deleted = refl })
+    subst (λ (g : Fragment). FragmentFits g) p.is (record { id = omega (arith, id); rows = omega (arith, rows); files = (file, tt); deletion = tt })
 
 all_fit : (fs : List Fragment) → All IsPlain fs → All (λ (f : Fragment). f.id < 2 ^ 32) fs → All (λ (f : Fragment). f.rows < 2 ^ 31) fs → AllByRecursion FragmentFits fs
 all_fit [] plains ids rows = tt
@@ -130,7 +130,7 @@ plain_stands bytes version at m a few small =
     let shape : shape_of (fields_from m.fields) ≡ column_shape = ap shape_of one ∙ shape_is column.0 column.1.1 in
     let keeps : KeepsRules version (shape_of (fields_from m.fields)) (said_manifest m) = record {
       numbered = a.numbered;
-      flags = refl;
+      flags = flag_known (has_deletions m);
       few = omega (arith, a.rules.few, length-map m.fragments said_fragment);
       ids = have_ids m.fragments a.rules.ids a.rules.distinct;
       each = subst (λ (s : LeafShape). KeepEach FRAGMENT_RULES s (map said_fragment m.fragments)) (sym shape) (keep_each FRAGMENT_RULES m.fragments plains a.rules.rows);
@@ -144,4 +144,4 @@ plain_stands bytes version at m a few small =
       apart = subst (λ (fs : PlainFields ℕ). AreDistinct (trees_of fs)) (sym one) (apart column.0 column.1.1);
     } in
     let can : ManifestFits m = record { fields = writable; fragments = fit; version = omega (arith, a.numbered, few); greatest = a.rules.greatest; short = short } in
-    subst (λ (b : List ℕ). IsManifestObject (record { base = at; bytes = b }) version m) (sym a.written.spelled) (object_back at version m can a.numbered keeps (fragments_again m.fragments fit))
+    subst (λ (b : List ℕ). IsManifestObject (record { base = at; bytes = b }) version m) (sym a.written.spelled) (object_back at version m can a.numbered keeps (fragments_again m.fragments))

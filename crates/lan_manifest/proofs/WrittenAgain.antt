@@ -23,11 +23,12 @@ use Rattle.lan_manifest.specs.declared.said.SaidFile.{SaidFile}
 use Rattle.lan_manifest.specs.declared.said.SaidDeletion.{SaidDeletion}
 use Rattle.lan_manifest.specs.declared.said.SaidFragment.{SaidFragment}
 use Rattle.lan_manifest.specs.FragmentRules.{is_current, type_fits, Keeps, KeepEach, HaveIds}
-use Rattle.lan_manifest.specs.ManifestMessages.{SaysFile, SaysFragment}
+use Rattle.lan_manifest.specs.ManifestMessages.{SaysFile, SaysDeletions, SaysFragment}
 use Rattle.lan_manifest.specs.ManifestObjects.{KeepsRules, fragment_of, IsManifestObject}
 use Rattle.lan_manifest.specs.Manifests.{PlainManifest, fragment_text, greatest_text, has_deletions, manifest_text, framed}
 use Rattle.lan_manifest.specs.SchemaLeaves.{LeafShape, shape_of}
-use Rattle.lan_manifest.proofs.ObjectBack.{said_file, FileFits, said_fragment, FragmentFits, said_manifest, ManifestFits, object_back, fragments_again}
+use Rattle.lan_manifest.specs.Stage.{is_read_type}
+use Rattle.lan_manifest.proofs.ObjectBack.{said_file, FileFits, said_deletion, DeletionFits, DeletionsFit, said_fragment, FragmentFits, flag_known, said_manifest, ManifestFits, object_back, fragments_again}
 
 by_recursion : {X : Type 0} (P : X → Type 0) (xs : List X) → All P xs → AllByRecursion P xs
 by_recursion {X} P [] all = tt
@@ -67,22 +68,34 @@ record Kept (f : SaidFragment) : Type 0 where
   current : All (λ s. IsTrue (is_current s)) f.files
   read : IsTrue (type_fits f.deletion)
 
-no_deletion : (d : Option SaidDeletion) → IsTrue (type_fits d) → d ≡ None
-no_deletion None h = refl
-no_deletion (Some d) h = absurd cc
+-- a deletion file that is read has type 0
+read_type : (kind : ℕ) → IsTrue (is_read_type kind) → kind ≡ 0
+read_type kind h = absurd cc
+
+deletion_same : (d : Option SaidDeletion) → IsTrue (type_fits d) → option_map said_deletion (option_map (λ (e : SaidDeletion). e.deletion) d) ≡ d
+deletion_same None h = refl
+deletion_same (Some d) h = let kind : 0 ≡ d.kind = sym (read_type d.kind h) in λ i. Some (record { kind = kind i; deletion = d.deletion })
+
+deletions_fit : (items : List Item) (d : Option SaidDeletion) → SaysDeletions items d → DeletionsFit (option_map (λ (e : SaidDeletion). e.deletion) d)
+deletions_fit items None p = tt
+deletions_fit items (Some d) p =
+    let part = p.part in
+    let its = p.holds.items in
+    let spelled = p.holds.reads.spelled in
+    subst (λ (e : SaidDeletion). DeletionFits e.deletion) (sym p.holds.said) (record { read_version = num_fits 2 part.base part.bytes its spelled; id = num_fits 3 part.base part.bytes its spelled; rows = num_fits 4 part.base part.bytes its spelled })
 
 fragment_fits : (part : Placed) (f : SaidFragment) → SaysFragment part f → Kept f → FragmentFits (fragment_of f)
 fragment_fits part f p k = record {
   id = omega (arith, k.id);
   rows = omega (arith, k.rows);
   files = files_fit (parts_under 2 p.0.items) f.files p.0.said.files;
-  none_deleted = ap (λ (d : Option SaidDeletion). option_map (λ e. e.deletion) d) (no_deletion f.deletion k.read);
+  deletion = deletions_fit p.0.items f.deletion p.0.said.deletion;
 }
 
 fragment_same : (f : SaidFragment) → Kept f → said_fragment (fragment_of f) ≡ f
 fragment_same f k =
     let files = files_same f.files (by_recursion (λ s. IsTrue (is_current s)) f.files k.current) in
-    let deletion : None ≡ f.deletion = sym (no_deletion f.deletion k.read) in
+    let deletion = deletion_same f.deletion k.read in
     let row_ids : false ≡ f.row_ids = sym k.no_row_ids in
     λ i. record { id = f.id; files = files i; deletion = deletion i; rows = f.rows; row_ids = row_ids i }
 
@@ -141,7 +154,7 @@ written_again object version at m o small =
     let t = read_fields o.message 1 (fields_from m.fields) p.fields in
     let keeps : KeepsRules version shape (said_manifest m) = record {
       numbered = p.numbered;
-      flags = refl;
+      flags = flag_known (has_deletions m);
       few = subst (λ (fs : List SaidFragment). length fs ≤ 65536) (sym same) p.keeps.few;
       ids = subst (λ (fs : List SaidFragment). HaveIds fs) (sym same) p.keeps.ids;
       each = subst (λ (fs : List SaidFragment). KeepEach FRAGMENT_RULES shape fs) (sym same) p.keeps.each;
@@ -153,4 +166,4 @@ written_again object version at m o small =
       greatest = subst (λ (g : Option ℕ). IfSome g (λ id. id < 2 ^ 32)) (sym (p.greatest ∙ p.said.said.greatest)) (maybe_small_fits (last_under 11 items));
       short = small;
     } in
-    object_back at version m fits p.numbered keeps (fragments_again m.fragments fit)
+    object_back at version m fits p.numbered keeps (fragments_again m.fragments)

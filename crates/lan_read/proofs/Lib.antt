@@ -1,6 +1,15 @@
+pub mod ChangedRows
+pub mod ChangedTables
 pub mod FragmentRead
+pub mod KeptTables
 pub mod LawTerms
+pub mod LeafTops
 pub mod Monotone
 pub mod Newest
 pub mod NewestOpened
 pub mod OneTable
+pub mod PlainTables
+pub mod RowLists
+pub mod SingleTable
+pub mod WholeFields
+pub mod WrittenFiles

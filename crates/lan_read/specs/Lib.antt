@@ -1,7 +1,12 @@
+pub mod Changes
 pub mod Failures
 pub mod Fragments
+pub mod Given
+pub mod Listings
 pub mod Newest
 pub mod Opens
 pub mod Reasons
+pub mod Rows
 pub mod Stage
 pub mod Standing
+pub mod Tables

@@ -6,3 +6,7 @@ use Rattle.lan_manifest.specs.declared.manifest.Deletion.{Deletion}
 -- no deletion file is read
 abbrev pub HoldsDeletions : List Object → Deletion → ℕ → List ℕ → Type 0
 HoldsDeletions objects d physical deleted = ⊥
+
+-- no bytes are a deletion file, of so many physical rows, of which as many as are stated are deleted, and these are they
+abbrev pub IsDeletionFile : List ℕ → ℕ → ℕ → List ℕ → Type 0
+IsDeletionFile bytes physical stated deleted = ⊥

@@ -1,21 +1,32 @@
 //! What holds of the tables that objects stand for, each law as the contract of a function with an empty
 //! body. A proof of another crate cites a law by its term in `proofs/LawTerms.antt`.
 
-ghost use Rattle.std.specs.Prelude.{◌≡◌, ◌-◌, ◌++◌, [], ◌∷◌, ℕ, List, All, Some, length, slice_get};
-ghost use Rattle.lan_model.specs.Plain.{PlainField, PlainValue};
-ghost use Rattle.lan_model.specs.Table.{Table};
+ghost use Rattle.std.specs.Prelude.{◌≡◌, ◌≢◌, ◌-◌, ◌<◌, ◌++◌, [], ◌∷◌, ℕ, List, All, AllPairs, Some, length, map, remove, slice_get};
+ghost use Rattle.lan_model.specs.After.{each_with, without};
+ghost use Rattle.lan_model.specs.Dataset.{Dataset, with_version};
+ghost use Rattle.lan_model.specs.Fits.{Fits};
+ghost use Rattle.lan_bytes.specs.Placed.{Placed};
+ghost use Rattle.lan_model.specs.Plain.{PlainField, PlainValue, null, fields_from, unnumbered};
+ghost use Rattle.lan_model.specs.Table.{AreFields, FitsRow, IsField, Table};
 ghost use Rattle.lan_store.specs.declared.name.Name.{Name};
 ghost use Rattle.lan_store.specs.declared.name.Object.{Object};
 ghost use Rattle.lan_read.specs.declared.fault.Reason.{Reason};
 ghost use Rattle.lan_file.specs.Stage.{IsRequiredFixed};
+ghost use Rattle.lan_manifest.specs.declared.manifest.DataFile.{DataFile};
 ghost use Rattle.lan_manifest.specs.declared.manifest.Fragment.{Fragment};
+ghost use Rattle.lan_manifest.specs.ManifestObjects.{IsManifestObject};
 ghost use Rattle.lan_manifest.specs.Manifests.{PlainManifest};
 ghost use Rattle.lan_manifest.specs.Reads.{ManifestAt};
 ghost use Rattle.lan_manifest.specs.Stage.{IsOneColumn, IsOneFile};
 ghost use Rattle.lan_manifest.specs.Versions.{AreListed, IsNewest, NoneListed};
+ghost use Rattle.lan_read.specs.Changes.{AddsFile, AddToEach, new_fragment, with_file};
+ghost use Rattle.lan_read.specs.Given.{AreWhole, NoneGiven};
+ghost use Rattle.lan_read.specs.Listings.{IsFileOfRows, all_listings, file_of_fields, ids_in};
 ghost use Rattle.lan_read.specs.Newest.{IsNewestOf};
 ghost use Rattle.lan_read.specs.Reasons.{Stands, StandsUnread};
-ghost use Rattle.lan_read.specs.Standing.{RowsOf, StandsAt};
+ghost use Rattle.lan_read.specs.Rows.{FragmentGives, FragmentsGive, IsHeld};
+ghost use Rattle.lan_read.specs.Standing.{RowsOf, StandsAt, data_name};
+ghost use Rattle.lan_read.specs.Tables.{AgreesWith, HasManifest, StandsFor};
 
 /// More objects change no table that stands, and no rows of fragments.
 pub fn tables_stay()
@@ -65,4 +76,74 @@ pub fn rows_are_those_of_fragments()
 pub fn manifests_have_no_reason()
     ensures stands { (objects : List Object) (version : ℕ) (name : Name) (why : Reason) (place : ℕ) → StandsUnread objects version name why place → Stands objects version name why place }
     ensures none { (objects : List Object) (version : ℕ) (name : Name) (why : Reason) (place : ℕ) (m : PlainManifest) → StandsUnread objects version name why place → ManifestAt objects version m → ⊥ }
+{}
+
+/// Whatever its columns and files: more objects change no table that stands, and no rows of fragments.
+pub fn standing_tables_stay()
+    ensures tables { (objects more : List Object) (version : ℕ) (t : Table) → StandsFor objects version t → StandsFor (objects ++ more) version t }
+    ensures rows { (objects more : List Object) (fields : List (PlainField ℕ)) (fragments : List Fragment) (rows : List (List PlainValue)) → FragmentsGive objects fields fragments rows → FragmentsGive (objects ++ more) fields fragments rows }
+{}
+
+/// Whatever its columns and files: the objects stand for one table at a version, and have one manifest of it;
+/// the table has the rows that the manifest's fragments give.
+pub fn one_standing_table()
+    ensures table { (objects : List Object) (version : ℕ) (t u : Table) → StandsFor objects version t → StandsFor objects version u → t ≡ u }
+    ensures manifest { (objects : List Object) (version : ℕ) (m n : PlainManifest) → HasManifest objects version m → HasManifest objects version n → m ≡ n }
+    ensures rows { (objects : List Object) (version : ℕ) (t : Table) (m : PlainManifest) (rows : List (List PlainValue)) → StandsFor objects version t → HasManifest objects version m → FragmentsGive objects m.fields m.fragments rows → t.rows ≡ rows }
+{}
+
+/// What reading rows needs of a manifest: its fields are well formed, and each is given whole or not at all.
+pub fn manifest_fields_are_whole()
+    ensures fields { (object : Placed) (version : ℕ) (m : PlainManifest) → IsManifestObject object version m → AreFields (fields_from m.fields) }
+    ensures whole { (object : Placed) (version : ℕ) (m : PlainManifest) → IsManifestObject object version m → AreWhole m.fields m.fragments }
+{}
+
+/// Fragments that stand before others give the first of their rows.
+pub fn fronts_of_fragments_give_fronts()
+    ensures { (objects : List Object) (fields : List (PlainField ℕ)) (fs gs : List Fragment) (xs ys : List (List PlainValue)) → AreFields (fields_from fields) → AreWhole fields fs → FragmentsGive objects fields fs xs → FragmentsGive objects fields (fs ++ gs) ys
+        → (later : List (List PlainValue)) × (ys ≡ xs ++ later) × FragmentsGive objects fields gs later }
+{}
+
+/// A table of one column in the writer's own spelling stands whatever the columns and files of others.
+pub fn narrow_tables_stand()
+    ensures tables { (objects : List Object) (version : ℕ) (t : Table) → StandsAt objects version t → StandsFor objects version t }
+    ensures rows { (objects : List Object) (fields : List (PlainField ℕ)) (fragments : List Fragment) (rows : List (List PlainValue)) → IsOneColumn fields → All IsOneFile fragments → RowsOf objects fields fragments rows → FragmentsGive objects fields fragments rows }
+{}
+
+/// A data file of the writer's lists whose columns have the rows' slots gives them, as the one file of a new
+/// fragment.
+pub fn new_fragments_give_their_rows()
+    ensures { (objects : List Object) (path : List ℕ) (fields : List (PlainField ℕ)) (id : ℕ) (rows : List (List PlainValue)) → AreFields (fields_from fields) → AllPairs (λ x y. x ≢ y) (ids_in (all_listings (fields_from fields) 0)) → All (FitsRow fields) rows
+        → IsHeld objects (data_name path) (λ bytes. IsFileOfRows fields bytes rows) → FragmentGives objects fields (new_fragment id (file_of_fields path fields) (length rows)) rows }
+{}
+
+/// What the new version of a change stands for, where the version before it, or the one that is restored, stands
+/// for a table. Objects come behind those that are there; `n` is the manifest before, and `m` the new one.
+pub fn changed_tables_stand()
+    ensures create { (objects : List Object) (version : ℕ) (m : PlainManifest) → HasManifest objects version m → m.fragments ≡ [] → StandsFor objects version (record { columns = map unnumbered m.fields; rows = [] }) }
+    ensures append { (objects more : List Object) (old new : ℕ) (t : Table) (n m : PlainManifest) (f : Fragment) (rows : List (List PlainValue)) → StandsFor objects old t → HasManifest objects old n → HasManifest (objects ++ more) new m
+        → m.fields ≡ n.fields → m.fragments ≡ n.fragments ++ f ∷ [] → FragmentGives (objects ++ more) n.fields f rows → StandsFor (objects ++ more) new (record t { rows = t.rows ++ rows }) }
+    ensures restore { (objects more : List Object) (old new : ℕ) (t : Table) (n m : PlainManifest) → StandsFor objects old t → HasManifest objects old n → HasManifest (objects ++ more) new m
+        → m.fields ≡ n.fields → m.fragments ≡ n.fragments → StandsFor (objects ++ more) new t }
+    ensures add_null { (objects more : List Object) (old new : ℕ) (t : Table) (n m : PlainManifest) (g : PlainField ℕ) → StandsFor objects old t → HasManifest objects old n → HasManifest (objects ++ more) new m
+        → m.fields ≡ n.fields ++ g ∷ [] → m.fragments ≡ n.fragments → All (λ (f : Fragment). NoneGiven f.files g) n.fragments → Fits g null
+        → StandsFor (objects ++ more) new (record { columns = t.columns ++ unnumbered g ∷ []; rows = map (λ row. row ++ null ∷ []) t.rows }) }
+    ensures add_column { (objects more : List Object) (old new : ℕ) (t : Table) (n m : PlainManifest) (g : PlainField ℕ) (values : List PlainValue) → StandsFor objects old t → HasManifest objects old n → HasManifest (objects ++ more) new m
+        → m.fields ≡ n.fields ++ g ∷ [] → AddToEach (objects ++ more) n.fields g n.fragments m.fragments values
+        → StandsFor (objects ++ more) new (record { columns = t.columns ++ unnumbered g ∷ []; rows = each_with t.rows values }) }
+    ensures drop_column { (objects more : List Object) (old new : ℕ) (t : Table) (n m : PlainManifest) (p : ℕ) → StandsFor objects old t → HasManifest objects old n → HasManifest (objects ++ more) new m
+        → p < length n.fields → m.fields ≡ remove n.fields p → m.fragments ≡ n.fragments
+        → StandsFor (objects ++ more) new (record { columns = remove t.columns p; rows = map (λ row. remove row p) t.rows }) }
+{}
+
+/// With a version more, and objects more, the dataset agrees with them again.
+pub fn agreement_goes_on()
+    ensures { (objects more : List Object) (version : ℕ) (t : Table) (d : Dataset) → AgreesWith objects d → AreListed (objects ++ more) (d.listed ++ version ∷ []) → StandsFor (objects ++ more) version t → AgreesWith (objects ++ more) (with_version d version t) }
+{}
+
+/// A file that gives a new field its values, one a row, adds them to a fragment; a fragment of no rows needs none.
+pub fn added_files_add_their_values()
+    ensures file { (objects : List Object) (fields : List (PlainField ℕ)) (f : Fragment) (g : PlainField ℕ) (file : DataFile) (values : List PlainValue) (kept : List (List PlainValue)) → IsField g → AddsFile objects fields f g file values
+        → (is : FragmentGives objects fields f kept) → FragmentGives objects (fields ++ g ∷ []) (with_file f file) (each_with kept (without is.deleted 0 values)) }
+    ensures none { (objects : List Object) (fields : List (PlainField ℕ)) (f : Fragment) (g : PlainField ℕ) (kept : List (List PlainValue)) → f.rows ≡ 0 → NoneGiven f.files g → FragmentGives objects fields f kept → (kept ≡ []) × FragmentGives objects (fields ++ g ∷ []) f [] }
 {}

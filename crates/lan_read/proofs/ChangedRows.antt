@@ -1,27 +1,24 @@
 -- What each change does to the rows of a fragment, and of all fragments.
-use Rattle.std.proofs.Common.{◌≡◌, inl, inr, sym, ◌∙◌, ap, refl, ℕ, zero, suc, ◌+◌, ◌<◌, List, [], ◌∷◌, ◌++◌, length, map, arith, subst, append_assoc}
-use Rattle.std.specs.Prelude.{All, Contains, Option, Some, None, slice_get, remove}
+use Rattle.std.proofs.Common.{◌≡◌, inl, inr, sym, ◌∙◌, ap, refl, ℕ, zero, suc, ◌<◌, List, [], ◌∷◌, ◌++◌, length, map, arith, subst, append_assoc}
+use Rattle.std.specs.Prelude.{All, Contains, Some, slice_get, remove}
 use Rattle.std.proofs.lemmas.List.{map-append, append-nil, length-map}
 use Rattle.std.proofs.lemmas.Option.{slice_get_within}
 use Rattle.std.proofs.lemmas.List.Elements.{All-append, All-cons, All-nil, All-head, All-tail, Contains-append_left, Contains-append_right, Contains-append_cases}
-use Rattle.lan_model.specs.Plain.{PlainField, PlainValue, null, values_from, fields_from, unnumbered}
+use Rattle.lan_model.specs.Plain.{PlainField, PlainValue, null, values_from, fields_from}
 use Rattle.lan_model.specs.Fits.{Fits, AllFit}
-use Rattle.lan_model.specs.Leaves.{PlainLeaf, leaves_of}
-use Rattle.lan_model.specs.Table.{Table, FitsRow, IsField, AreFields}
+use Rattle.lan_model.specs.Leaves.{PlainLeaf}
+use Rattle.lan_model.specs.Table.{FitsRow, IsField, AreFields}
 use Rattle.lan_model.specs.After.{without, each_with}
 use Rattle.lan_levels.proofs.EachPath.{EachPath-some}
 use Rattle.lan_levels.proofs.Leaves.{each_path}
 use Rattle.lan_store.specs.declared.name.Object.{Object}
-use Rattle.lan_manifest.specs.Manifests.{PlainManifest}
 use Rattle.lan_manifest.specs.declared.manifest.Fragment.{Fragment}
 use Rattle.lan_manifest.specs.declared.manifest.DataFile.{DataFile}
-use Rattle.lan_manifest.specs.declared.manifest.Deletion.{Deletion}
 use Rattle.lan_read.specs.Changes.{AddsFile, AddToEach, FileHolds, GivesNone, new_fragment, with_file}
 use Rattle.lan_read.specs.Given.{AllGiven, Given, GivenIn, NoneGiven}
-use Rattle.lan_read.specs.Rows.{HoldsColumn, IsDataFile, IsHeld, values_at, FilesGive, PhysicalRows, AreDeleted, FragmentGives, FragmentsGive}
+use Rattle.lan_read.specs.Rows.{HoldsColumn, IsDataFile, IsHeld, values_at, FilesGive, PhysicalRows, FragmentGives, FragmentsGive}
 use Rattle.lan_read.specs.Standing.{data_name}
-use Rattle.lan_read.specs.Tables.{HasManifest, StandsFor}
-use Rattle.lan_read.proofs.RowLists.{Row, field_is, nulls_for, nulls_for-long, nulls_for-null, nulls_fit, each_with-nulls, each_with-long, each_with-append, rows_fit_more, rows_fit_less, last_or_before, column_before, column_last, before_removed, slice_get-removed, column_removed, without-map, without-each, without-none, without-append}
+use Rattle.lan_read.proofs.RowLists.{Row, field_is, nulls_for, nulls_for-long, nulls_for-null, nulls_fit, each_with-nulls, each_with-long, each_with-append, rows_fit_more, rows_fit_less, last_or_before, column_before, column_last, before_removed, slice_get-removed, column_removed, without-map, without-each, without-none}
 
 -- a field has a leaf
 pub not_both : (files : List DataFile) (f : PlainField ℕ) → IsField f → AllGiven files f → NoneGiven files f → ⊥

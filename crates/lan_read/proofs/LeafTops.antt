@@ -1,5 +1,5 @@
 -- The place of a leaf's top field is no matter to its column, and each column of a file is one by itself.
-use Rattle.std.proofs.Common.{◌≡◌, sym, ◌∙◌, ap, refl, ℕ, zero, suc, List, [], ◌∷◌, ◌++◌, subst}
+use Rattle.std.proofs.Common.{◌≡◌, sym, ◌∙◌, ap, refl, ℕ, zero, suc, List, [], ◌∷◌, subst}
 use Rattle.std.specs.Prelude.{All, Some, slice_get}
 use Rattle.std.proofs.lemmas.Option.{same_Some}
 use Rattle.std.proofs.lemmas.List.Elements.{All-cons, All-nil, All-head, All-tail}
@@ -12,7 +12,7 @@ use Rattle.lan_meta.specs.declared.page.Layout.{Layout}
 use Rattle.lan_meta.specs.declared.page.Layout.TheVariants.{Constant, Mini, Zip}
 use Rattle.lan_meta.specs.declared.page.PageMeta.{PageMeta}
 use Rattle.lan_meta.specs.Columns.{ColumnOf, StandsForPage}
-use Rattle.lan_meta.specs.PageOf.{buffers_in, IsPage, LaidOut}
+use Rattle.lan_meta.specs.PageOf.{buffers_in, LaidOut}
 use Rattle.lan_file.specs.FileOf.{ColumnsStand, IsFileOf, PagesStand}
 use Rattle.lan_file.specs.Heads.{HasHead, IsThere, LiesRight, Pick, PickedColumn, PickedColumns}
 

@@ -1,6 +1,6 @@
 -- A table that stands in the narrow sense stands whatever its columns and files.
 use Rattle.std.proofs.Common.{◌≡◌, sym, ◌∙◌, ap, ap₂, refl, ℕ, zero, suc, ◌≤◌, ◌^◌, false, true, List, [], ◌∷◌, ◌++◌, length, get_or, map, arith, subst}
-use Rattle.std.specs.Prelude.{All, Option, Some, None, Contains, pos, slice_get}
+use Rattle.std.specs.Prelude.{All, Option, Some, None, pos, slice_get}
 use Rattle.std.proofs.lemmas.Option.{same_Some}
 use Rattle.std.proofs.lemmas.List.Elements.{All-cons, All-head, All-nil, All-tail}
 use Rattle.lan_model.specs.declared.tree.Layer.TheVariants as layer

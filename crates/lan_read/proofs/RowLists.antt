@@ -1,6 +1,6 @@
 -- Rows, their columns, and the rows that are left of a list.
-use Rattle.std.proofs.Common.{◌≡◌, inl, inr, sym, ◌∙◌, ap, ap₂, refl, ℕ, zero, suc, ◌+◌, ◌<◌, true, false, cond, List, [], ◌∷◌, ◌++◌, length, get_or, map, arith, subst}
-use Rattle.std.specs.Prelude.{All, Some, slice_get, nat_eq, remove, ◌⊎◌, ◌||◌}
+use Rattle.std.proofs.Common.{◌≡◌, inl, inr, sym, ◌∙◌, ap, refl, ℕ, zero, suc, ◌+◌, ◌<◌, List, [], ◌∷◌, ◌++◌, length, get_or, map, arith, subst}
+use Rattle.std.specs.Prelude.{All, Some, slice_get, nat_eq, remove, ◌⊎◌}
 use Rattle.std.proofs.lemmas.Bool.{cases_Bool}
 use Rattle.std.specs.List.{list_any}
 use Rattle.std.proofs.lemmas.List.{get_or-map, ext_get_or, length-map, get_or_append_left, get_or_push}

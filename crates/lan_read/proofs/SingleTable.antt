@@ -9,7 +9,6 @@ use Rattle.lan_model.specs.Table.{Table, IsField, AreFields}
 use Rattle.lan_model.specs.After.{without}
 use Rattle.lan_model.specs.Leaves.{leaves_of}
 use Rattle.lan_levels.proofs.Leaves.{columns_determine}
-use Rattle.lan_levels.specs.PlainSlots.{PlainSlot}
 use Rattle.lan_file.proofs.LawTerms.{one_file}
 use Rattle.lan_store.specs.declared.name.Object.{Object}
 use Rattle.lan_store.specs.declared.name.Name.{Name}

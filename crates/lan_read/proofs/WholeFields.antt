@@ -1,10 +1,10 @@
 -- In each fragment of a manifest the leaves of a top field are given all or none.
 use Rattle.std.proofs.Common.{◌≡◌, inl, inr, sym, ◌∙◌, ap, refl, ℕ, zero, suc, ◌<◌, Bool, true, false, not, List, [], ◌∷◌, ◌++◌, length, get_or, map, arith, subst}
-use Rattle.std.specs.Prelude.{◌⊎◌, ◌&&◌, ◌||◌, ℤ, pos, negsuc, All, Contains, flat_map, Some, IsTrue, nat_eq, slice_get, slice_index_or, option_map}
+use Rattle.std.specs.Prelude.{◌&&◌, ◌||◌, ℤ, pos, negsuc, All, Contains, flat_map, Some, IsTrue, nat_eq, slice_get, slice_index_or, option_map}
 use Rattle.std.specs.List.{list_all, list_any}
-use Rattle.std.proofs.lemmas.Bool.{and_parts, cases_Bool, eqb-true, or_cases, or_left, or_parts, or_right, not-true, true≢false}
+use Rattle.std.proofs.lemmas.Bool.{and_parts, cases_Bool, eqb-true, or_cases, or_parts, or_right, not-true, true≢false}
 use Rattle.std.proofs.lemmas.Option.{same_Some, slice_get-map, slice_get-get_or}
-use Rattle.std.proofs.lemmas.List.Elements.{All-contains, All-cons, All-head, All-map, All-nil, All-tail}
+use Rattle.std.proofs.lemmas.List.Elements.{All-cons, All-head, All-map, All-nil, All-tail}
 use Rattle.lan_model.specs.Leaves.{PlainLeaf, leaves_of}
 use Rattle.lan_model.specs.Plain.{PlainField, field, fields_from}
 use Rattle.lan_model.specs.Table.{AreFields}

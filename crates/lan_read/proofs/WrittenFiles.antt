@@ -1,12 +1,12 @@
 -- A data file of a writer's lists, whose columns have the slots of rows, gives these rows.
 use Rattle.std.proofs.Common.{◌≡◌, inl, inr, sym, ◌∙◌, ap, ap₂, refl, ℕ, zero, suc, ◌+◌, ◌<◌, Bool, List, [], ◌∷◌, ◌++◌, length, get_or, map, arith, subst}
-use Rattle.std.specs.Prelude.{◌⊎◌, ◌≢◌, All, AllPairs, Some, slice_get, option_map, pos, ℤ}
+use Rattle.std.specs.Prelude.{◌⊎◌, ◌≢◌, All, AllPairs, Some, slice_get, option_map, pos}
 use Rattle.std.proofs.lemmas.List.{get_or-map, length-append, length-map, map-append}
 use Rattle.std.proofs.lemmas.Option.{same_Some, slice_get-get_or, slice_get-map, slice_get_within, get_or_from_slice_get}
 use Rattle.lan_model.specs.declared.tree.Layer.{Layer}
 use Rattle.lan_model.specs.declared.tree.Layer.TheVariants as layer
 use Rattle.lan_model.specs.Leaves.{PlainLeaf, leaves_of, leaves_of_members, leaves_from}
-use Rattle.lan_model.specs.Plain.{primitive, vector, text, bytes as binary, list, struct, PlainField, field, PlainFields, no_fields, one_field, PlainValue, fields_from, values_from}
+use Rattle.lan_model.specs.Plain.{primitive, vector, text, bytes as binary, list, struct, PlainField, field, PlainFields, no_fields, one_field, fields_from, values_from}
 use Rattle.lan_model.specs.Table.{AreFields, FitsRow}
 use Rattle.lan_levels.proofs.Leaves.{All-parts}
 use Rattle.lan_levels.specs.EachLeaf.{leaf_count, leaf_count_of}
@@ -19,9 +19,9 @@ use Rattle.lan_file.specs.FileOf.{IsFileOf}
 use Rattle.lan_file.specs.Heads.{Pick}
 use Rattle.lan_manifest.specs.declared.manifest.DataFile.{DataFile}
 use Rattle.lan_read.specs.Changes.{FileHolds, new_fragment}
-use Rattle.lan_read.specs.Given.{AllGiven, Given, GivenIn}
-use Rattle.lan_read.specs.Listings.{all_listings, columns_in, file_of_fields, ids_in, IsFileOfRows, Listing, listings_of, picks_from}
-use Rattle.lan_read.specs.Rows.{column_slots, FragmentGives, HoldsColumn, IsDataFile, IsHeld, values_at}
+use Rattle.lan_read.specs.Given.{AllGiven, GivenIn}
+use Rattle.lan_read.specs.Listings.{all_listings, file_of_fields, ids_in, IsFileOfRows, Listing, listings_of, picks_from}
+use Rattle.lan_read.specs.Rows.{column_slots, FragmentGives, HoldsColumn, IsHeld, values_at}
 use Rattle.lan_read.specs.Standing.{data_name}
 use Rattle.lan_read.proofs.ChangedRows.{fragment_new}
 use Rattle.lan_read.proofs.LeafTops.{below_top, column_by_itself, no_column}

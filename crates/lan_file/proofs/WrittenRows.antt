@@ -1,12 +1,11 @@
 -- A file that is written of rows by the writer's rule is a file of the slots of these rows.
 use Rattle.std.proofs.Common.{◌≡◌, ◌==◌, ℕ, zero, suc, ◌+◌, ◌^◌, ◌<◌, ◌≤◌, Bool, cond, List, [], ◌∷◌, ◌++◌, false, length, map, reverse, refl, sym, ◌∙◌, ap, subst, arith}
-use Rattle.std.specs.Prelude.{All, Some, slice_get, option_map, get_or}
+use Rattle.std.specs.Prelude.{All, option_map, get_or}
 use Rattle.std.proofs.lemmas.Bool.{eq-eqb, ne_eqb}
 use Rattle.std.proofs.lemmas.Grind.{reverse_onto}
 use Rattle.std.proofs.lemmas.List.{length-map, get_or_default}
-use Rattle.std.proofs.lemmas.List.Elements.{All-nil, All-cons, All-append, All-map, All-weaker, All-get_or, All-tail, All-head}
+use Rattle.std.proofs.lemmas.List.Elements.{All-nil, All-cons, All-append, All-map, All-weaker, All-tail, All-head}
 use Rattle.std.proofs.lemmas.Option.{slice_get-map}
-use Rattle.lan_levels.specs.declared.slot.State.TheVariants as state
 use Rattle.lan_levels.specs.PlainSlots.{PlainSlot}
 use Rattle.lan_levels.specs.SlotsOf.{lists_in, flat, slots_of, at_place, row_slots, rows_slots}
 use Rattle.lan_levels.specs.ZipForm.{leaf_form}
@@ -25,7 +24,7 @@ use Rattle.lan_zip.proofs.Written.{starts_each}
 use Rattle.lan_file.specs.FileOf.{IsFileOf}
 use Rattle.lan_file.specs.FileText.{file_text}
 use Rattle.lan_file.specs.Heads.{Pick}
-use Rattle.lan_file.specs.SlotsWritten.{Given, columns_of, IsGiven, AreGiven, TakesRows, given_of, rows_columns, AreLeaves, slots_asked}
+use Rattle.lan_file.specs.SlotsWritten.{IsGiven, AreGiven, TakesRows, given_of, rows_columns, AreLeaves, slots_asked}
 use Rattle.lan_file.proofs.WrittenColumn.{starts-append}
 use Rattle.lan_file.proofs.WrittenFile.{slots_are_a_file}
 

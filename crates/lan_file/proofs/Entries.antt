@@ -5,12 +5,12 @@ use Rattle.std.proofs.lemmas.Nat.{from_le_bytes-to_le_bytes_4, from_le_bytes-to_
 use Rattle.lan_file.specs.declared.tail.Footer.{Footer}
 use Rattle.lan_file.specs.Numbers.{u16_bytes, u32_bytes, u64_bytes}
 use Rattle.lan_file.specs.Parts.{footer_in, extent_in}
-use Rattle.lan_file.specs.Writing.{entry_text, footer_text}
+use Rattle.lan_file.specs.Writing.{entry_text, footer_for}
 
 abbrev pub written_footer : ℕ → ℕ → ℕ → Footer
 written_footer columns_at table columns = record { columns_at = columns_at; column_table = table; globals_table = table + 16 * columns; globals = 1; columns = columns; major = 2; minor = 1 }
 
-pub footer_read : (columns_at table columns : ℕ) → columns_at < 2 ^ 64 → table + 16 * columns < 2 ^ 64 → columns < 2 ^ 32 → footer_in (footer_text columns_at table columns) ≡ written_footer columns_at table columns
+pub footer_read : (columns_at table columns : ℕ) → columns_at < 2 ^ 64 → table + 16 * columns < 2 ^ 64 → columns < 2 ^ 32 → footer_in (footer_for columns_at table columns) ≡ written_footer columns_at table columns
 unfolding footer_in u64_bytes u32_bytes u16_bytes
 footer_read columns_at table columns first second few =
     let a = from_le_bytes-to_le_bytes_8 columns_at first in
@@ -26,14 +26,14 @@ entry_read at size first second =
     let b = from_le_bytes-to_le_bytes_8 size second in
     λ i. record { at = a i; size = b i }
 
-pub length-footer_text : (columns_at table columns : ℕ) → length (footer_text columns_at table columns) ≡ 40
+pub length-footer_for : (columns_at table columns : ℕ) → length (footer_for columns_at table columns) ≡ 40
 unfolding u64_bytes u32_bytes u16_bytes
-length-footer_text columns_at table columns = refl
+length-footer_for columns_at table columns = refl
 
 pub length-entry_text : (at size : ℕ) → length (entry_text at size) ≡ 16
 unfolding u64_bytes
 length-entry_text at size = refl
 
-pub mark_written : (columns_at table columns : ℕ) → drop 36 (footer_text columns_at table columns) ≡ codes "LANC"
+pub mark_written : (columns_at table columns : ℕ) → drop 36 (footer_for columns_at table columns) ≡ codes "LANC"
 unfolding u64_bytes u32_bytes u16_bytes
 mark_written columns_at table columns = refl

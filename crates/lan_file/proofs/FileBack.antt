@@ -24,7 +24,7 @@ use Rattle.lan_file.specs.FileOf.{IsWritten, AreWritten}
 use Rattle.lan_file.specs.FileText.{with_buffers, places_behind, with_pages, page_behind, pages_behind, with_columns, columns_behind, file_text}
 use Rattle.lan_file.specs.Heads.{Pick, placed, column_at, LiesRight, IsThere, PickedColumn, PickedColumns, HasHead}
 use Rattle.lan_file.specs.Parts.{part, footer_in, footer_of, extent_in, descriptor_of}
-use Rattle.lan_file.specs.Writing.{aligned, footer_text}
+use Rattle.lan_file.specs.Writing.{aligned, footer_for}
 use Rattle.lan_file.proofs.FileLaid.{Grown, grown_none, grown_by, grown_then, length_grown, aligned_grown, FileLaid, MessageLaid, file_laid}
 use Rattle.lan_file.proofs.PartLemmas.{part-here}
 use Rattle.lan_file.proofs.Entries.{written_footer, footer_read, entry_read, mark_written}
@@ -126,7 +126,7 @@ known schema rows columns small few few_columns =
       laid = l;
       small = small;
       few_rows = few;
-      footer = ap footer_in (l.tail ∙ ap (footer_text l.first l.table) count) ∙ footer_read l.first l.table (length columns) (omega (arith, long, small, l.ordered)) (omega (arith, long, small)) few_columns;
+      footer = ap footer_in (l.tail ∙ ap (footer_for l.first l.table) count) ∙ footer_read l.first l.table (length columns) (omega (arith, long, small, l.ordered)) (omega (arith, long, small)) few_columns;
       long = long;
     }
 

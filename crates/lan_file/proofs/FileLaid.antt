@@ -6,9 +6,9 @@ use Rattle.std.proofs.lemmas.List.{append-nil}
 use Rattle.std.proofs.lemmas.List.Folds.{concat-append}
 use Rattle.lan_file.specs.FileText.{entries_from, file_with}
 use Rattle.lan_file.specs.Parts.{part, tail_of}
-use Rattle.lan_file.specs.Writing.{aligned, entry_text, footer_text}
+use Rattle.lan_file.specs.Writing.{aligned, entry_text, footer_for}
 use Rattle.lan_file.proofs.PartLemmas.{part-past, part-front, part-here}
-use Rattle.lan_file.proofs.Entries.{length-footer_text, length-entry_text}
+use Rattle.lan_file.proofs.Entries.{length-footer_for, length-entry_text}
 
 -- bytes with more behind them
 pub record Grown (before after : List ℕ) : Type 0 where
@@ -64,7 +64,7 @@ pub record FileLaid (file buffers descriptor : List ℕ) (messages : List (List 
   pub ordered : first ≤ table
   pub buffers_before : length buffers ≤ first
   pub long : length file ≡ table + 16 * length messages + 56
-  pub tail : tail_of file ≡ footer_text first table (length messages)
+  pub tail : tail_of file ≡ footer_for first table (length messages)
   pub descriptor_entry : part file (table + 16 * length messages) 16 ≡ entry_text descriptor_at (length descriptor)
   pub descriptor_is : part file descriptor_at (length descriptor) ≡ descriptor
   pub descriptor_before : descriptor_at + length descriptor ≡ first
@@ -108,12 +108,12 @@ file_laid buffers descriptor messages =
     let columns : List ℕ = entries_from (length front) messages in
     let global = entry_text (length pages) (length descriptor) in
     let table = length front + length all in
-    let foot = footer_text (length front) table (length messages) in
+    let foot = footer_for (length front) table (length messages) in
     let rest : List ℕ = global ++ foot in
     let file : List ℕ = front ++ (all ++ (columns ++ rest)) in
     let size_1 : length columns ≡ 16 * length messages = length-entries_from (length front) messages in
     let size_2 : length global ≡ 16 = length-entry_text (length pages) (length descriptor) in
-    let size_3 : length foot ≡ 40 = length-footer_text (length front) table (length messages) in
+    let size_3 : length foot ≡ 40 = length-footer_for (length front) table (length messages) in
     let size_4 : length rest ≡ 56 = length-append global foot ∙ omega (arith, size_2, size_3) in
     let size_5 : length (columns ++ rest) ≡ 16 * length messages + 56 = length-append columns rest ∙ omega (arith, size_1, size_4) in
     let size_6 : length (all ++ (columns ++ rest)) ≡ length all + 16 * length messages + 56 = length-append all (columns ++ rest) ∙ omega (arith, size_5) in

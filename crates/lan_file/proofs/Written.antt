@@ -9,12 +9,12 @@ use Rattle.lan_file.specs.declared.tail.Extent.{Extent}
 use Rattle.lan_file.specs.Stage.{IsRequiredFixed}
 use Rattle.lan_file.specs.Stating.{StandAll}
 use Rattle.lan_file.specs.Texts.{page_bytes, column_text, descriptor_text}
-use Rattle.lan_file.specs.Writing.{entry_text, footer_text, file_from, file_bytes}
+use Rattle.lan_file.specs.Writing.{entry_text, footer_for, file_from, file_bytes}
 use Rattle.lan_file.specs.Parts.{part, tail_of, footer_in, footer_of, extent_in, extent, column_of, descriptor_of}
 use Rattle.lan_file.specs.Files.{HoldsRows}
 use Rattle.lan_file.specs.Widths.{column_size}
 use Rattle.lan_file.proofs.PartLemmas.{part-past, part-front, part-here}
-use Rattle.lan_file.proofs.Entries.{written_footer, footer_read, entry_read, length-footer_text, length-entry_text, mark_written}
+use Rattle.lan_file.proofs.Entries.{written_footer, footer_read, entry_read, length-footer_for, length-entry_text, mark_written}
 use Rattle.lan_file.proofs.Pages.{type_of, length-page_bytes, few_rows, fit_rows, page_stands}
 use Rattle.lan_file.proofs.Slots.{stand_for}
 
@@ -23,7 +23,7 @@ record Laid (file page column descriptor : List ℕ) : Type 0 where
   columns_at : ℕ
   descriptor_at : ℕ
   long : length file ≡ columns_at + length column + 72
-  tail : tail_of file ≡ footer_text columns_at (columns_at + length column) 1
+  tail : tail_of file ≡ footer_for columns_at (columns_at + length column) 1
   column_entry : part file (columns_at + length column) 16 ≡ entry_text columns_at (length column)
   descriptor_entry : part file (columns_at + length column + 16) 16 ≡ entry_text descriptor_at (length descriptor)
   column_part : part file columns_at (length column) ≡ column
@@ -40,11 +40,11 @@ laid page column descriptor =
     let at = length front in
     let e1 = entry_text at (length column) in
     let e2 = entry_text (length before) (length descriptor) in
-    let foot = footer_text at (at + length column) 1 in
+    let foot = footer_for at (at + length column) 1 in
     let behind : List ℕ = column ++ (e1 ++ (e2 ++ foot)) in
     let size_1 : length e1 ≡ 16 = length-entry_text at (length column) in
     let size_2 : length e2 ≡ 16 = length-entry_text (length before) (length descriptor) in
-    let size_3 : length foot ≡ 40 = length-footer_text at (at + length column) 1 in
+    let size_3 : length foot ≡ 40 = length-footer_for at (at + length column) 1 in
     let size_4 : length (e2 ++ foot) ≡ 56 = length-append e2 foot ∙ omega (arith, size_2, size_3) in
     let size_5 : length (e1 ++ (e2 ++ foot)) ≡ 72 = length-append e1 (e2 ++ foot) ∙ omega (arith, size_1, size_4) in
     let size_6 : length behind ≡ length column + 72 = length-append column (e1 ++ (e2 ++ foot)) ∙ omega (arith, size_5) in

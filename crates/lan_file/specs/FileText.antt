@@ -7,7 +7,7 @@ use Rattle.lan_meta.specs.declared.page.BuiltPage.{BuiltPage}
 use Rattle.lan_meta.specs.declared.page.PageMeta.{PageMeta}
 use Rattle.lan_meta.specs.Written.{column_text}
 use Rattle.lan_file.specs.Descriptor.{descriptor_text}
-use Rattle.lan_file.specs.Writing.{aligned, entry_text, footer_text}
+use Rattle.lan_file.specs.Writing.{aligned, entry_text, footer_for}
 
 -- bytes with buffers behind them, each at the next multiple of 64
 abbrev pub with_buffers : List ℕ → List (List ℕ) → List ℕ
@@ -54,7 +54,7 @@ file_with buffers descriptor messages =
     let front = aligned buffers ++ descriptor in
     front
     ++ (concat messages
-    ++ (entries_from (length front) messages ++ (entry_text (length (aligned buffers)) (length descriptor) ++ footer_text (length front) (length front + length (concat messages)) (length messages))))
+    ++ (entries_from (length front) messages ++ (entry_text (length (aligned buffers)) (length descriptor) ++ footer_for (length front) (length front + length (concat messages)) (length messages))))
 
 -- the file of so many rows of the fields, whose leaves have these columns
 unfoldable pub file_text : PlainFields ℕ → ℕ → List (List BuiltPage) → List ℕ

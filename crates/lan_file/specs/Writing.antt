@@ -13,15 +13,19 @@ abbrev pub entry_text : ℕ → ℕ → List ℕ
 entry_text at size = u64_bytes at ++ u64_bytes size
 
 -- the footer of a file of so many columns and one global buffer, whose tables have no gap behind them
-abbrev pub footer_text : ℕ → ℕ → ℕ → List ℕ
-footer_text columns_at table columns =
+abbrev pub footer_for : ℕ → ℕ → ℕ → List ℕ
+footer_for columns_at table columns =
     u64_bytes columns_at ++ (u64_bytes table ++ (u64_bytes (table + 16 * columns) ++ (u32_bytes 1 ++ (u32_bytes columns ++ (u16_bytes 2 ++ (u16_bytes 1 ++ codes "LANC"))))))
+
+-- the same of a file of one column
+abbrev pub footer_text : ℕ → ℕ → List ℕ
+footer_text columns_at table = footer_for columns_at table 1
 
 -- a file of one page: the page, the descriptor at the next multiple of 64, and all that follows without a gap
 abbrev pub file_from : List ℕ → List ℕ → List ℕ → List ℕ
 file_from page column descriptor =
     let front = aligned page ++ descriptor in
-    front ++ (column ++ (entry_text (length front) (length column) ++ (entry_text (length (aligned page)) (length descriptor) ++ footer_text (length front) (length front + length column) 1)))
+    front ++ (column ++ (entry_text (length front) (length column) ++ (entry_text (length (aligned page)) (length descriptor) ++ footer_text (length front) (length front + length column))))
 
 -- the file of these rows of these fields
 unfoldable pub file_bytes : List (PlainField ℕ) → List (List PlainValue) → List ℕ

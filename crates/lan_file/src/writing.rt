@@ -8,7 +8,7 @@ ghost use Rattle.lan_file.specs.Numbers.{u16_bytes, u32_bytes, u64_bytes};
 ghost use Rattle.lan_file.specs.Stage.{IsRequiredFixed};
 ghost use Rattle.lan_file.specs.Stating.{FitsOne};
 ghost use Rattle.lan_file.specs.Texts.{row_bytes, page_bytes};
-ghost use Rattle.lan_file.specs.Writing.{entry_text, footer_text, file_bytes};
+ghost use Rattle.lan_file.specs.Writing.{entry_text, footer_for, file_bytes};
 
 use crate::texts::{column_text, descriptor_text};
 use crate::widths::type_size;
@@ -97,7 +97,7 @@ pub(crate) fn put_footer(
     out: &mut Out,
 ) -> Result<(), AllocError>
     requires { table + 16 * columns < 2 ^ 64 }
-    ensures { OnOk result (out.new ≡ out.old ++ footer_text columns_at table columns) }
+    ensures { OnOk result (out.new ≡ out.old ++ footer_for columns_at table columns) }
 {
     put_u64(columns_at, out)?;
     put_u64(table, out)?;

@@ -5,7 +5,7 @@ use Rattle.lan_meta.specs.declared.page.BuiltPage.{BuiltPage}
 use Rattle.lan_meta.specs.Written.{column_text}
 use Rattle.lan_file.specs.Descriptor.{descriptor_text}
 use Rattle.lan_file.specs.FileText.{with_columns, columns_behind, entries_from, file_with, file_text}
-use Rattle.lan_file.specs.Writing.{aligned, entry_text, footer_text}
+use Rattle.lan_file.specs.Writing.{aligned, entry_text, footer_for}
 use Rattle.lan_file.proofs.FileBack.{count_is}
 use Rattle.lan_file.proofs.FilePut.{file_put}
 use Rattle.lan_file.proofs.file_text.write_file.Goals as goal
@@ -39,5 +39,5 @@ returns c =
     let first_is : c.len-columns_at.result ≡ length o2 = c.len-columns_at.ensures in
     let table_is : c.len-table.result ≡ length o3 = c.len-table.ensures in
     let number_is : c.len-2.result ≡ length messages = c.len-2.ensures ∙ sym count in
-    let e6 : o6 ≡ o5 ++ footer_text (length o2) (length o3) (length messages) = c.in_ok-put_footer.ensures ∙ (λ i. o5 ++ footer_text (first_is i) (table_is i) (number_is i)) in
+    let e6 : o6 ≡ o5 ++ footer_for (length o2) (length o3) (length messages) = c.in_ok-put_footer.ensures ∙ (λ i. o5 ++ footer_for (first_is i) (table_is i) (number_is i)) in
     c.finish-2.ensures ∙ file_put o1 o2 o3 o4 o5 o6 d messages e2 e3 e4 e5 e6 ∙ (λ i. file_with (buffers_are i) (text_is i) (messages_are i))

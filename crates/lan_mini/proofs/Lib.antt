@@ -15,4 +15,5 @@ pub mod ChunkBack
 pub mod Inverse
 pub mod PartsBack
 pub mod PageBack
+pub mod IndexBack
 pub mod Leaves

@@ -1,9 +1,8 @@
 -- The chunks of a page, found by their words.
-use Rattle.std.proofs.Common.{◌≡◌, ◌∙◌, ℕ, zero, suc, ◌+◌, ◌-◌, ◌*◌, ◌/◌, ◌%◌, ◌<◌, ◌≤◌, ◌^◌, ◌⊎◌, inl, inr, Bool, true, false, cond, IsTrue, List, [], ◌∷◌, ◌++◌, length, map, take, drop, All, refl, ap, ap₂, subst, sym, arith, append_assoc, length-append, length-drop, lt-ltb, le-ltb}
-use Rattle.std.specs.Prelude.{slice_index, flat_map, nat_lt}
-use Rattle.std.proofs.lemmas.List.{append-nil, take_at, drop_at, drop-drop, take_all, length-map}
+use Rattle.std.proofs.Common.{◌≡◌, ◌∙◌, ℕ, zero, suc, ◌+◌, ◌-◌, ◌*◌, ◌/◌, ◌%◌, ◌<◌, ◌≤◌, ◌^◌, inl, inr, Bool, true, false, cond, List, [], ◌∷◌, ◌++◌, length, map, take, drop, All, refl, ap, ap₂, subst, sym, arith, length-append, lt-ltb, le-ltb}
+use Rattle.std.specs.Prelude.{slice_get, slice_index, Some, nat_lt}
+use Rattle.std.proofs.lemmas.List.{append-nil, take_at, drop_at, drop-drop, take_all}
 use Rattle.std.proofs.lemmas.List.Elements.{All-nil, All-cons}
-use Rattle.std.proofs.lemmas.Nat.{pow_pos}
 use Rattle.std.proofs.Math.Nat.{pow-le-pow_right}
 use Rattle.lan_bytes.specs.Padding.{padded}
 use Rattle.lan_levels.specs.PlainSlots.{PlainSlot}
@@ -113,6 +112,7 @@ some_slots f p ps slots h = let count = ap (length {A = PlainSlot}) h.3.1 in let
 pub record Found (f : ChunkForm) (ps : List ChunkPart) (slots : List PlainSlot) (n : ℕ) : Type 0 where
   pub part : ChunkPart
   pub is : IsPart f part
+  pub place : slice_get ps n ≡ Some part
   pub bytes_are : bytes_of_chunk (map word_of ps) (content_bytes ps) n ≡ part.bytes
   pub slots_are : slots_of_chunk (map word_of ps) slots n ≡ part.slots
 
@@ -168,13 +168,13 @@ found f [] slots n h can less = absurd (omega arith)
 found f (p ∷ []) slots zero h can less =
     let rest = h.3.0 in
     let is = part_of_next f p slots rest h.3.1 can h.0 h.1 h.2 in
-    record { part = p; is = is; bytes_are = first_bytes p [] is.bytes; slots_are = last_slots p slots rest h.3.1 h.3.2 }
+    record { part = p; is = is; place = refl; bytes_are = first_bytes p [] is.bytes; slots_are = last_slots p slots rest h.3.1 h.3.2 }
 found f (p ∷ []) slots (suc n) h can less = absurd (omega arith)
 found f (p ∷ q ∷ ps) slots zero h can less =
     let rest = h.3.0 in
     let is = part_of_next f p slots rest h.3.1 can h.0 h.1 h.2 in
     let power = power_of_next f p slots rest h.3.1 (some_slots f q ps rest h.3.2) h.1 in
-    record { part = p; is = is; bytes_are = first_bytes p (q ∷ ps) is.bytes; slots_are = first_slots p (word_of q) (map word_of ps) slots rest h.3.1 (slots_said f p is power) }
+    record { part = p; is = is; place = refl; bytes_are = first_bytes p (q ∷ ps) is.bytes; slots_are = first_slots p (word_of q) (map word_of ps) slots rest h.3.1 (slots_said f p is power) }
 found f (p ∷ q ∷ ps) slots (suc n) h can less =
     let rest = h.3.0 in
     let is = part_of_next f p slots rest h.3.1 can h.0 h.1 h.2 in
@@ -184,6 +184,7 @@ found f (p ∷ q ∷ ps) slots (suc n) h can less =
     record {
       part = later.part;
       is = later.is;
+      place = later.place;
       bytes_are = later_bytes p (q ∷ ps) n is.bytes ∙ later.bytes_are;
       slots_are = later_slots p (map word_of (q ∷ ps)) slots rest n h.3.1 (slots_said f p is power) ∙ later.slots_are;
     }

@@ -1,5 +1,5 @@
 ghost use Rattle.lan_levels.specs.ChunkSlots.{ChunksAreUnique};
-ghost use Rattle.lan_mini.specs.Inverse.{ChunksAreRead, PagesAreCut};
+ghost use Rattle.lan_mini.specs.Inverse.{ChunksAreRead, PagesAreRead};
 
 /// A law of the definitions: the bytes of a chunk stand for one list of slots.
 pub fn chunks_are_unique()
@@ -11,8 +11,7 @@ pub fn chunks_are_read()
     ensures { ChunksAreRead }
 {}
 
-/// A law of the definitions: the words of a page that is built cut its second buffer into the chunks
-/// of its slots.
-pub fn pages_are_cut()
-    ensures { PagesAreCut }
+/// A law of the definitions: the buffers of a page that is built are a page of its slots.
+pub fn pages_are_read()
+    ensures { PagesAreRead }
 {}

@@ -1,6 +1,7 @@
 -- The laws' terms: what a proof of another crate cites of this one.
 pub use Rattle.lan_read.proofs.ChangedRows.{fragment_empty, fragment_more}
 pub use Rattle.lan_read.proofs.ChangedTables.{add_column_stands, add_null_stands, agreement_stays, append_stands, create_stands, drop_column_stands, restore_stands}
+pub use Rattle.lan_read.proofs.JoinedRows.{fragment_joins, join_fragment, row_joined, value_joined, version_joins, version_stands}
 pub use Rattle.lan_read.proofs.KeptTables.{fragments_stay, table_stays}
 pub use Rattle.lan_read.proofs.Monotone.{stands_more, rows_more}
 pub use Rattle.lan_read.proofs.Newest.{newest_is, none_is, last_is}
@@ -8,4 +9,4 @@ pub use Rattle.lan_read.proofs.OneTable.{one_column, one_rows, manifest_one, tab
 pub use Rattle.lan_read.proofs.PlainTables.{plain_rows_stand, plain_table_stands}
 pub use Rattle.lan_read.proofs.SingleTable.{front_of_rows, one_manifest_held, one_table_for, rows_given}
 pub use Rattle.lan_read.proofs.WholeFields.{manifest_fields, manifest_whole}
-pub use Rattle.lan_read.proofs.WrittenFiles.{fragment_written}
+pub use Rattle.lan_read.proofs.WrittenFiles.{column_written, fragment_written}

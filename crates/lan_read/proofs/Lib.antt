@@ -1,6 +1,8 @@
 pub mod ChangedRows
 pub mod ChangedTables
+pub mod CutColumns
 pub mod FragmentRead
+pub mod JoinedRows
 pub mod KeptTables
 pub mod LawTerms
 pub mod LeafTops

@@ -27,7 +27,7 @@ use Rattle.lan_read.proofs.RowLists.{Row, values_same, row_long, column_fits, fi
 pub held_one : (objects : List Object) (name : Name) (P Q : List ℕ → Type 0) (a : IsHeld objects name P) (b : IsHeld objects name Q) → Q a.bytes
 held_one objects name P Q a b = subst Q (same_Some b.bytes a.bytes (sym b.held ∙ a.held)) b.says
 
-only_item : {X : Type 0} {x y : X} → x ∷ [] ≡ y ∷ [] → x ≡ y
+pub only_item : {X : Type 0} {x y : X} → x ∷ [] ≡ y ∷ [] → x ≡ y
 only_item {X} {x} {y} e = same_Some x y (ap (λ (l : List X). slice_get l 0) e)
 
 -- a top field that is given whole or not at all has one list of values

@@ -3,10 +3,12 @@ use Rattle.std.proofs.Common.{◌≡◌, inl, inr, sym, ◌∙◌, ap, ap₂, re
 use Rattle.std.specs.Prelude.{◌⊎◌, ◌≢◌, All, AllPairs, Some, slice_get, option_map, pos}
 use Rattle.std.proofs.lemmas.List.{get_or-map, length-append, length-map, map-append}
 use Rattle.std.proofs.lemmas.Option.{same_Some, slice_get-get_or, slice_get-map, slice_get_within, get_or_from_slice_get}
+use Rattle.std.proofs.lemmas.List.Elements.{All-head}
 use Rattle.lan_model.specs.declared.tree.Layer.{Layer}
 use Rattle.lan_model.specs.declared.tree.Layer.TheVariants as layer
+use Rattle.lan_model.specs.Fits.{AllFit}
 use Rattle.lan_model.specs.Leaves.{PlainLeaf, leaves_of, leaves_of_members, leaves_from}
-use Rattle.lan_model.specs.Plain.{primitive, vector, text, bytes as binary, list, struct, PlainField, field, PlainFields, no_fields, one_field, fields_from, values_from}
+use Rattle.lan_model.specs.Plain.{primitive, vector, text, bytes as binary, list, struct, PlainField, field, PlainFields, no_fields, one_field, PlainValue, fields_from, values_from}
 use Rattle.lan_model.specs.Table.{AreFields, FitsRow}
 use Rattle.lan_levels.proofs.Leaves.{All-parts}
 use Rattle.lan_levels.specs.EachLeaf.{leaf_count, leaf_count_of}
@@ -18,10 +20,11 @@ use Rattle.lan_store.specs.declared.name.Object.{Object}
 use Rattle.lan_file.specs.FileOf.{IsFileOf}
 use Rattle.lan_file.specs.Heads.{Pick}
 use Rattle.lan_manifest.specs.declared.manifest.DataFile.{DataFile}
-use Rattle.lan_read.specs.Changes.{FileHolds, new_fragment}
-use Rattle.lan_read.specs.Given.{AllGiven, GivenIn}
-use Rattle.lan_read.specs.Listings.{all_listings, file_of_fields, ids_in, IsFileOfRows, Listing, listings_of, picks_from}
-use Rattle.lan_read.specs.Rows.{column_slots, FragmentGives, HoldsColumn, IsHeld, values_at}
+use Rattle.lan_manifest.specs.declared.manifest.Fragment.{Fragment}
+use Rattle.lan_read.specs.Changes.{AddsFile, FileHolds, GivesNone, new_fragment}
+use Rattle.lan_read.specs.Given.{AllGiven, GivenIn, NoneGiven}
+use Rattle.lan_read.specs.Listings.{all_listings, file_of_fields, ids_in, IsFileOfRows, Listing, listings_of, picks_from, rows_of_one}
+use Rattle.lan_read.specs.Rows.{column_slots, FragmentGives, HoldsColumn, IsDataFile, IsHeld, values_at}
 use Rattle.lan_read.specs.Standing.{data_name}
 use Rattle.lan_read.proofs.ChangedRows.{fragment_new}
 use Rattle.lan_read.proofs.LeafTops.{below_top, column_by_itself, no_column}
@@ -233,3 +236,25 @@ file_holds objects path fields rows distinct held = record {
 pub fragment_written : (objects : List Object) (path : List ℕ) (fields : List (PlainField ℕ)) (id : ℕ) (rows : List Row) → AreFields (fields_from fields) → AllPairs (λ x y. x ≢ y) (ids_in (all_listings (fields_from fields) 0)) → All (FitsRow fields) rows
     → IsHeld objects (data_name path) (λ bytes. IsFileOfRows fields bytes rows) → FragmentGives objects fields (new_fragment id (file_of_fields path fields) (length rows)) rows
 fragment_written objects path fields id rows are distinct fit held = fragment_new objects fields id (file_of_fields path fields) rows are fit (all_given path fields) (file_holds objects path fields rows distinct held)
+
+single_column : (values : List PlainValue) → values_at 0 (rows_of_one values) ≡ values
+single_column [] = refl
+single_column (v ∷ values) = ap (λ (l : List PlainValue). v ∷ l) (single_column values)
+
+-- and a file of one new field adds its values to a fragment
+pub column_written : (objects : List Object) (path : List ℕ) (fields : List (PlainField ℕ)) (f : Fragment) (g : PlainField ℕ) (values : List PlainValue) → AllPairs (λ x y. x ≢ y) (ids_in (all_listings (fields_from (g ∷ [])) 0)) → length values ≡ f.rows → AllFit g (values_from values)
+    → IsHeld objects (data_name path) (λ bytes. IsFileOfRows (g ∷ []) bytes (rows_of_one values)) → NoneGiven f.files g → ((top : ℕ) (h : PlainField ℕ) → slice_get fields top ≡ Some h → GivesNone (file_of_fields path (g ∷ [])) h)
+    → AddsFile objects fields f g (file_of_fields path (g ∷ [])) values
+column_written objects path fields f g values distinct long fit held is_new only_new =
+    let holds = file_holds objects path (g ∷ []) (rows_of_one values) distinct held in
+    let count : length (rows_of_one values) ≡ f.rows = length-map values (λ v. v ∷ []) ∙ long in
+    record {
+      long = long;
+      fit = fit;
+      is_file = subst (λ (n : ℕ). IsHeld objects (data_name path) (λ bytes. IsDataFile bytes n)) count holds.is_file;
+      given = λ k d below column by.
+          subst (λ (vs : List PlainValue). IsHeld objects (data_name path) (λ bytes. HoldsColumn bytes column (get_or (leaves_of g 0 []) k d) vs)) (single_column values) (holds.columns 0 g refl k d below column by);
+      all_given = All-head (AllGiven (file_of_fields path (g ∷ []) ∷ [])) g [] (all_given path (g ∷ []));
+      is_new = is_new;
+      only_new = only_new;
+    }

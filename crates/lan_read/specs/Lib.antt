@@ -1,7 +1,9 @@
 pub mod Changes
+pub mod Cut
 pub mod Failures
 pub mod Fragments
 pub mod Given
+pub mod Joined
 pub mod Listings
 pub mod Newest
 pub mod Opens

@@ -44,3 +44,7 @@ picks_from column (leaf ∷ leaves) = record { column = column; leaf = leaf } �
 abbrev pub IsFileOfRows : List (PlainField ℕ) → List ℕ → List (List PlainValue) → Type 0
 IsFileOfRows fields bytes rows =
     IsFileOf (picks_from 0 (leaves_from (fields_from fields) 0)) bytes (length rows) (map (λ leaf. rows_slots leaf (map values_from rows)) (leaves_from (fields_from fields) 0))
+
+-- rows of one value each
+abbrev pub rows_of_one : List PlainValue → List (List PlainValue)
+rows_of_one = map (λ v. v ∷ [])

@@ -1,12 +1,12 @@
 //! What holds of the tables that objects stand for, each law as the contract of a function with an empty
 //! body. A proof of another crate cites a law by its term in `proofs/LawTerms.antt`.
 
-ghost use Rattle.std.specs.Prelude.{◌≡◌, ◌≢◌, ◌-◌, ◌<◌, ◌++◌, [], ◌∷◌, ℕ, List, All, AllPairs, Some, length, map, remove, slice_get};
+ghost use Rattle.std.specs.Prelude.{◌≡◌, ◌≢◌, ◌-◌, ◌<◌, ◌++◌, [], ◌∷◌, ℕ, List, All, AllPairs, Some, get_or, length, map, remove, slice_get};
 ghost use Rattle.lan_model.specs.After.{each_with, without};
 ghost use Rattle.lan_model.specs.Dataset.{Dataset, with_version};
-ghost use Rattle.lan_model.specs.Fits.{Fits};
+ghost use Rattle.lan_model.specs.Fits.{AllFit, Fits};
 ghost use Rattle.lan_bytes.specs.Placed.{Placed};
-ghost use Rattle.lan_model.specs.Plain.{PlainField, PlainValue, null, fields_from, unnumbered};
+ghost use Rattle.lan_model.specs.Plain.{PlainField, PlainValue, null, fields_from, unnumbered, values_from};
 ghost use Rattle.lan_model.specs.Table.{AreFields, FitsRow, IsField, Table};
 ghost use Rattle.lan_store.specs.declared.name.Name.{Name};
 ghost use Rattle.lan_store.specs.declared.name.Object.{Object};
@@ -19,12 +19,13 @@ ghost use Rattle.lan_manifest.specs.Manifests.{PlainManifest};
 ghost use Rattle.lan_manifest.specs.Reads.{ManifestAt};
 ghost use Rattle.lan_manifest.specs.Stage.{IsOneColumn, IsOneFile};
 ghost use Rattle.lan_manifest.specs.Versions.{AreListed, IsNewest, NoneListed};
-ghost use Rattle.lan_read.specs.Changes.{AddsFile, AddToEach, new_fragment, with_file};
-ghost use Rattle.lan_read.specs.Given.{AreWhole, NoneGiven};
-ghost use Rattle.lan_read.specs.Listings.{IsFileOfRows, all_listings, file_of_fields, ids_in};
+ghost use Rattle.lan_read.specs.Changes.{AddsFile, AddToEach, GivesNone, new_fragment, with_file};
+ghost use Rattle.lan_read.specs.Given.{AreWhole, IsWhole, NoneGiven};
+ghost use Rattle.lan_read.specs.Joined.{FieldJoins, FragmentJoins, RowJoins};
+ghost use Rattle.lan_read.specs.Listings.{IsFileOfRows, all_listings, file_of_fields, ids_in, rows_of_one};
 ghost use Rattle.lan_read.specs.Newest.{IsNewestOf};
 ghost use Rattle.lan_read.specs.Reasons.{Stands, StandsUnread};
-ghost use Rattle.lan_read.specs.Rows.{FragmentGives, FragmentsGive, IsHeld};
+ghost use Rattle.lan_read.specs.Rows.{FragmentGives, FragmentsGive, IsHeld, PhysicalRows};
 ghost use Rattle.lan_read.specs.Standing.{RowsOf, StandsAt, data_name};
 ghost use Rattle.lan_read.specs.Tables.{AgreesWith, HasManifest, StandsFor};
 
@@ -141,9 +142,34 @@ pub fn agreement_goes_on()
     ensures { (objects more : List Object) (version : ℕ) (t : Table) (d : Dataset) → AgreesWith objects d → AreListed (objects ++ more) (d.listed ++ version ∷ []) → StandsFor (objects ++ more) version t → AgreesWith (objects ++ more) (with_version d version t) }
 {}
 
-/// A file that gives a new field its values, one a row, adds them to a fragment; a fragment of no rows needs none.
+/// A file that gives a new field its values, one a row, adds them to a fragment, and one of the writer's lists whose
+/// columns have their slots is such a file; a fragment of no rows needs none.
 pub fn added_files_add_their_values()
     ensures file { (objects : List Object) (fields : List (PlainField ℕ)) (f : Fragment) (g : PlainField ℕ) (file : DataFile) (values : List PlainValue) (kept : List (List PlainValue)) → IsField g → AddsFile objects fields f g file values
         → (is : FragmentGives objects fields f kept) → FragmentGives objects (fields ++ g ∷ []) (with_file f file) (each_with kept (without is.deleted 0 values)) }
+    ensures written { (objects : List Object) (path : List ℕ) (fields : List (PlainField ℕ)) (f : Fragment) (g : PlainField ℕ) (values : List PlainValue) → AllPairs (λ x y. x ≢ y) (ids_in (all_listings (fields_from (g ∷ [])) 0)) → length values ≡ f.rows → AllFit g (values_from values)
+        → IsHeld objects (data_name path) (λ bytes. IsFileOfRows (g ∷ []) bytes (rows_of_one values)) → NoneGiven f.files g → ((top : ℕ) (h : PlainField ℕ) → slice_get fields top ≡ Some h → GivesNone (file_of_fields path (g ∷ [])) h)
+        → AddsFile objects fields f g (file_of_fields path (g ∷ [])) values }
     ensures none { (objects : List Object) (fields : List (PlainField ℕ)) (f : Fragment) (g : PlainField ℕ) (kept : List (List PlainValue)) → f.rows ≡ 0 → NoneGiven f.files g → FragmentGives objects fields f kept → (kept ≡ []) × FragmentGives objects (fields ++ g ∷ []) f [] }
+{}
+
+/// A fragment gives rows exactly where each of its columns has so many, and row by row their slots are those of
+/// one row.
+pub fn fragments_give_rows_where_they_join()
+    ensures gives { (objects : List Object) (fields : List (PlainField ℕ)) (f : Fragment) → FragmentJoins objects fields f → (rows : List (List PlainValue)) × FragmentGives objects fields f rows }
+    ensures joins { (objects : List Object) (fields : List (PlainField ℕ)) (f : Fragment) (rows : List (List PlainValue)) → FragmentGives objects fields f rows → FragmentJoins objects fields f }
+{}
+
+/// A version stands exactly where it has a manifest, and each fragment's files join.
+pub fn versions_stand_where_fragments_join()
+    ensures stands { (objects : List Object) (version : ℕ) (m : PlainManifest) → HasManifest objects version m → All (FragmentJoins objects m.fields) m.fragments → (t : Table) × StandsFor objects version t }
+    ensures joins { (objects : List Object) (version : ℕ) (t : Table) (m : PlainManifest) → StandsFor objects version t → HasManifest objects version m → All (FragmentJoins objects m.fields) m.fragments }
+{}
+
+/// A value that is joined from the slots of a row in its field's leaves is the row's, and so is a whole row.
+pub fn joined_values_are_those_of_rows()
+    ensures value { (objects : List Object) (fields : List (PlainField ℕ)) (files : List DataFile) (count : ℕ) (rows : List (List PlainValue)) (top j : ℕ) (f : PlainField ℕ) (v : PlainValue) → AreFields (fields_from fields)
+        → PhysicalRows objects fields files count rows → slice_get fields top ≡ Some f → j < count → FieldJoins objects files count j f v → v ≡ get_or (get_or rows j []) top null }
+    ensures row { (objects : List Object) (fields : List (PlainField ℕ)) (files : List DataFile) (count : ℕ) (rows : List (List PlainValue)) (j : ℕ) (row : List PlainValue) → AreFields (fields_from fields) → All (IsWhole files) fields
+        → PhysicalRows objects fields files count rows → j < count → RowJoins objects fields files count j row → row ≡ get_or rows j [] }
 {}

@@ -17,7 +17,7 @@ use Rattle.lan_model.specs.declared.tree.Layer.TheVariants as layer
 use Rattle.lan_model.specs.Fits.{EachFits}
 use Rattle.lan_model.specs.Leaves.{PlainLeaf, leaves_of, leaves_of_members, leaves_from}
 use Rattle.lan_model.specs.Plain.{PlainType, primitive, vector, text, bytes, list, struct, PlainField, field, PlainFields, no_fields, one_field, PlainValue, null, bits, raw, items, group, PlainValues, no_values, one_value}
-use Rattle.lan_zip.specs.Standing.{AllHaveRoom}
+use Rattle.lan_model.specs.Room.{AllHaveRoom}
 use Rattle.lan_zip.proofs.Paths.{EachValue, FitsPath, RowFits, fitting_row}
 use Rattle.lan_zip.proofs.Standing.{rows_stand}
 use Rattle.lan_zip.proofs.Written.{starts_each}

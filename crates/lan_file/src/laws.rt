@@ -8,7 +8,7 @@ ghost use Rattle.lan_meta.specs.declared.page.PageMeta.{PageMeta};
 ghost use Rattle.lan_model.specs.Leaves.{PlainLeaf, leaves_from};
 ghost use Rattle.lan_model.specs.Fits.{EachFits};
 ghost use Rattle.lan_model.specs.Plain.{PlainField, PlainFields, PlainValue, PlainValues, fields_from, values_from};
-ghost use Rattle.lan_zip.specs.Standing.{AllHaveRoom};
+ghost use Rattle.lan_model.specs.Room.{AllHaveRoom};
 ghost use Rattle.lan_model.specs.Table.{FitsRow};
 ghost use Rattle.lan_file.specs.declared.fault.FileReason.{FileReason};
 ghost use Rattle.lan_file.specs.declared.head_fault.HeadReason.{HeadReason};

@@ -7,6 +7,7 @@ pub mod Leaves
 pub mod Lending
 pub mod Plain
 pub mod PlainTable
+pub mod Room
 pub mod Table
 pub mod Take
 pub mod formers

@@ -11,7 +11,7 @@ use Rattle.lan_model.specs.Leaves.{PlainLeaf, leaves_of, leaves_of_members, leav
 use Rattle.lan_levels.specs.SlotsOf.{at_place}
 use Rattle.lan_levels.proofs.EachPath.{EachPath, EachMember, EachPath-all, EachMember-all, EachPath-map, EachPath-map2}
 use Rattle.lan_levels.proofs.Leaves.{onward}
-use Rattle.lan_zip.specs.Standing.{HasRoom, AllHaveRoom}
+use Rattle.lan_model.specs.Room.{HasRoom, AllHaveRoom}
 
 abbrev pub EachValue : (PlainValue → Type 0) → PlainValues → Type 0
 EachValue P no_values = ⊤

@@ -22,7 +22,7 @@ use Rattle.lan_levels.specs.declared.shape.ValueForm.TheVariants as value
 use Rattle.lan_levels.specs.ZipForm.{PlainForm, value_form, kind_of, leaf_form}
 use Rattle.lan_levels.specs.ZipWritten.{FitsForm, CanStand}
 use Rattle.lan_zip.specs.Building.{HasNumber}
-use Rattle.lan_zip.specs.Standing.{AllHaveRoom}
+use Rattle.lan_model.specs.Room.{AllHaveRoom}
 use Rattle.lan_zip.proofs.Paths.{EachValue, FitsPath, RowFits, fitting_row}
 
 in_front : (xs ys : List State) (s : State) → HasNumber xs s → HasNumber (xs ++ ys) s

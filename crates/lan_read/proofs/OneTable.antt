@@ -25,8 +25,8 @@ use Rattle.lan_manifest.proofs.LawTerms.{one_manifest}
 use Rattle.lan_read.specs.Reasons.{StandsInManifest, StandsUnread, StandsInFile, Stands}
 use Rattle.lan_read.specs.Standing.{FileGives, DeletedRows, FragmentRows, RowsOf, StandsAt}
 use Rattle.lan_read.specs.declared.fault.ManifestReason.TheVariants.{Plain}
-use Rattle.lan_read.specs.declared.fault.Reason.{Reason}
-use Rattle.lan_read.specs.declared.fault.Reason.TheVariants.{Missing, Size, Short, Manifest, File}
+use Rattle.lan_read.specs.declared.fault.PlainReason.{PlainReason}
+use Rattle.lan_read.specs.declared.fault.PlainReason.TheVariants.{Missing, Size, Short, Manifest, File}
 
 -- what holds of each item holds of one that is there
 of_one : {X : Type 0} (P : X → Type 0) (xs : List X) (x : X) → Contains xs x → All P xs → P x
@@ -104,9 +104,9 @@ no_rows_of objects fields f name why place rows stands has =
     no_reason fields gives.bytes has.physical why place gives.holds gives.size
     (subst (λ n. StandsInBytes fields n (Some gives.bytes) why place) (sym has.count) (subst (λ o. StandsInBytes fields f.rows o why place) held stands.stands))
 
-in_manifest : (objects : List Object) (version : ℕ) (name : Name) (why : Reason) (place : ℕ) (m : PlainManifest) → name ≡ manifest_name version → StandsInManifest (object objects name) version why place → ManifestAt objects version m → ⊥
+in_manifest : (objects : List Object) (version : ℕ) (name : Name) (why : PlainReason) (place : ℕ) (m : PlainManifest) → name ≡ manifest_name version → StandsInManifest (object objects name) version why place → ManifestAt objects version m → ⊥
 in_manifest objects version name why place m is stands at = go why (subst (λ o. StandsInManifest o version why place) (ap (object objects) is ∙ at.held) stands) where
-  go : (why : Reason) → StandsInManifest (Some at.bytes) version why place → ⊥
+  go : (why : PlainReason) → StandsInManifest (Some at.bytes) version why place → ⊥
   go Missing (none, front) = absurd (cc none)
   go Size (long, place_is) = absurd (omega (arith, long, at.size))
   go Short stands = stands
@@ -114,7 +114,7 @@ in_manifest objects version name why place m is stands at = go why (subst (λ o.
   go (File why) stands = stands
 
 -- a reason of the manifest is one of the version
-pub unread_stands : (objects : List Object) (version : ℕ) (name : Name) (why : Reason) (place : ℕ) → StandsUnread objects version name why place → Stands objects version name why place
+pub unread_stands : (objects : List Object) (version : ℕ) (name : Name) (why : PlainReason) (place : ℕ) → StandsUnread objects version name why place → Stands objects version name why place
 unread_stands objects version name Missing place stands = stands
 unread_stands objects version name Size place stands = stands
 unread_stands objects version name Short place stands = stands
@@ -122,11 +122,11 @@ unread_stands objects version name (Manifest why) place stands = stands
 unread_stands objects version name (File why) place (is, never) = absurd never
 
 -- and where it stands, the version has no manifest
-pub unread_or_manifest : (objects : List Object) (version : ℕ) (name : Name) (why : Reason) (place : ℕ) (m : PlainManifest) → StandsUnread objects version name why place → ManifestAt objects version m → ⊥
+pub unread_or_manifest : (objects : List Object) (version : ℕ) (name : Name) (why : PlainReason) (place : ℕ) (m : PlainManifest) → StandsUnread objects version name why place → ManifestAt objects version m → ⊥
 unread_or_manifest objects version name why place m (is, stands) at = in_manifest objects version name why place m is stands at
 
 -- a version in which a reason stands, stands for no table
-pub reason_or_table : (objects : List Object) (version : ℕ) (name : Name) (why : Reason) (place : ℕ) (t : Table) → Stands objects version name why place → StandsAt objects version t → ⊥
+pub reason_or_table : (objects : List Object) (version : ℕ) (name : Name) (why : PlainReason) (place : ℕ) (t : Table) → Stands objects version name why place → StandsAt objects version t → ⊥
 reason_or_table objects version name (File why) place t stands table =
     let same = manifest_one objects version table.manifest stands.manifest table.reads stands.reads in
     let rows : RowsOf objects stands.manifest.fields stands.manifest.fragments t.rows = subst (λ n. RowsOf objects n.fields n.fragments t.rows) same table.rows in

@@ -3,12 +3,12 @@ use Rattle.std.specs.Prelude.{Option, Some, None, Result, Err}
 use Rattle.lan_store.specs.declared.name.Name.{Name}
 use Rattle.lan_read.specs.declared.fault.FragmentFault.{FragmentFault}
 use Rattle.lan_read.specs.declared.fault.FragmentFault.TheVariants as fragment
-use Rattle.lan_read.specs.declared.fault.ReadFault.{ReadFault}
-use Rattle.lan_read.specs.declared.fault.ReadFault.TheVariants.{Store}
+use Rattle.lan_read.specs.declared.fault.PlainReadFault.{PlainReadFault}
+use Rattle.lan_read.specs.declared.fault.PlainReadFault.TheVariants.{Store}
 use Rattle.lan_read.specs.declared.object.ObjectFault.{ObjectFault}
 use Rattle.lan_read.specs.declared.object.ObjectFault.TheVariants.{Failed}
 
-abbrev pub read_failure : {A : Type 0} → Result A ReadFault → Option Name
+abbrev pub read_failure : {A : Type 0} → Result A PlainReadFault → Option Name
 read_failure (Err (Store name)) = Some name
 read_failure result = None
 

@@ -10,5 +10,6 @@ pub mod Opens
 pub mod Reasons
 pub mod Rows
 pub mod Stage
+pub mod Snapshots
 pub mod Standing
 pub mod Tables

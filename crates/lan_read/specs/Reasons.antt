@@ -13,11 +13,11 @@ use Rattle.lan_manifest.specs.declared.manifest.Fragment.{Fragment}
 use Rattle.lan_model.specs.Plain.{PlainField}
 use Rattle.lan_read.specs.Standing.{data_name}
 use Rattle.lan_read.specs.declared.fault.ManifestReason.TheVariants.{Plain}
-use Rattle.lan_read.specs.declared.fault.Reason.{Reason}
-use Rattle.lan_read.specs.declared.fault.Reason.TheVariants.{Missing, Size, Short, Manifest, File}
+use Rattle.lan_read.specs.declared.fault.PlainReason.{PlainReason}
+use Rattle.lan_read.specs.declared.fault.PlainReason.TheVariants.{Missing, Size, Short, Manifest, File}
 
 -- the reason stands at the place in what is held as the manifest of a version
-abbrev pub StandsInManifest : Option (List ℕ) → ℕ → Reason → ℕ → Type 0
+abbrev pub StandsInManifest : Option (List ℕ) → ℕ → PlainReason → ℕ → Type 0
 StandsInManifest held version Missing place = (held ≡ None) × (place ≡ 0)
 StandsInManifest held version Size place = IsSomeAnd held (λ bytes. (2 ^ 30 < length bytes) × (place ≡ length bytes))
 StandsInManifest held version Short place = ⊥
@@ -25,7 +25,7 @@ StandsInManifest held version (Manifest Plain) place = (place ≡ 0) × IsSomeAn
 StandsInManifest held version (File why) place = ⊥
 
 -- the name is that of the version's manifest, and the reason stands at the place in what is held under it
-abbrev pub StandsUnread : List Object → ℕ → Name → Reason → ℕ → Type 0
+abbrev pub StandsUnread : List Object → ℕ → Name → PlainReason → ℕ → Type 0
 StandsUnread objects version name why place = (name ≡ manifest_name version) × StandsInManifest (object objects name) version why place
 
 -- the name is that of a data file of the fragment, and the reason stands at the place in what is held under it
@@ -44,6 +44,6 @@ pub record StandsInFragment (objects : List Object) (version : ℕ) (name : Name
   pub in_file : StandsInFile objects manifest.fields fragment name why place
 
 -- the reason stands at the place in an object of the version
-abbrev pub Stands : List Object → ℕ → Name → Reason → ℕ → Type 0
+abbrev pub Stands : List Object → ℕ → Name → PlainReason → ℕ → Type 0
 Stands objects version name (File why) place = StandsInFragment objects version name why place
 Stands objects version name why place = StandsUnread objects version name why place

@@ -1,5 +1,5 @@
 ghost use Rattle.std.specs.Prelude.{◌≡◌};
-ghost use Rattle.lan_read.specs.declared.fault.ReadFault.TheVariants.{Memory};
+ghost use Rattle.lan_read.specs.declared.fault.PlainReadFault.TheVariants.{Memory};
 ghost use Rattle.lan_read.specs.declared.fault.FragmentFault.TheVariants as fragment;
 
 use lan_file::FileReason;
@@ -15,7 +15,7 @@ pub enum ManifestReason {
 
 /// Why a stored object is outside of what is read. The first three are a manifest's.
 #[derive(Debug, Drop)]
-pub enum Reason {
+pub enum PlainReason {
     /// No object of the name is held; at 0.
     Missing,
     /// It has over 2^30 bytes; at its size.
@@ -29,21 +29,21 @@ pub enum Reason {
 
 /// Why a version isn't read.
 #[derive(Debug, Drop)]
-pub enum ReadFault {
+pub enum PlainReadFault {
     /// No version is listed.
     NoDataset,
     /// An object isn't read: why, and at which byte, counted from the object's front.
-    Outside(Name, Reason, u64),
+    Outside(Name, PlainReason, u64),
     /// The store failed at this name; a folder has an empty rest.
     Store(Name),
     Memory,
 }
 
-impl From<AllocError> for ReadFault {
+impl From<AllocError> for PlainReadFault {
     ghost from_gives = { λ _ e. e ≡ Memory };
 
     fn from(_: AllocError) -> Self {
-        ReadFault::Memory
+        PlainReadFault::Memory
     }
 }
 

@@ -10,7 +10,7 @@ ghost use Rattle.lan_model.specs.Plain.{PlainField, PlainValue, null, fields_fro
 ghost use Rattle.lan_model.specs.Table.{AreFields, FitsRow, IsField, Table};
 ghost use Rattle.lan_store.specs.declared.name.Name.{Name};
 ghost use Rattle.lan_store.specs.declared.name.Object.{Object};
-ghost use Rattle.lan_read.specs.declared.fault.Reason.{Reason};
+ghost use Rattle.lan_read.specs.declared.fault.PlainReason.{PlainReason};
 ghost use Rattle.lan_file.specs.Stage.{IsRequiredFixed};
 ghost use Rattle.lan_manifest.specs.declared.manifest.DataFile.{DataFile};
 ghost use Rattle.lan_manifest.specs.declared.manifest.Fragment.{Fragment};
@@ -42,7 +42,7 @@ pub fn one_table()
 
 /// A version in which a reason stands, stands for no table.
 pub fn reasons_are_against_tables()
-    ensures { (objects : List Object) (version : ℕ) (name : Name) (why : Reason) (place : ℕ) (t : Table) → Stands objects version name why place → StandsAt objects version t → ⊥ }
+    ensures { (objects : List Object) (version : ℕ) (name : Name) (why : PlainReason) (place : ℕ) (t : Table) → Stands objects version name why place → StandsAt objects version t → ⊥ }
 {}
 
 /// The objects have one manifest of a version.
@@ -75,8 +75,8 @@ pub fn rows_are_those_of_fragments()
 
 /// A reason that stands in a version's manifest stands in the version, which then has no manifest.
 pub fn manifests_have_no_reason()
-    ensures stands { (objects : List Object) (version : ℕ) (name : Name) (why : Reason) (place : ℕ) → StandsUnread objects version name why place → Stands objects version name why place }
-    ensures none { (objects : List Object) (version : ℕ) (name : Name) (why : Reason) (place : ℕ) (m : PlainManifest) → StandsUnread objects version name why place → ManifestAt objects version m → ⊥ }
+    ensures stands { (objects : List Object) (version : ℕ) (name : Name) (why : PlainReason) (place : ℕ) → StandsUnread objects version name why place → Stands objects version name why place }
+    ensures none { (objects : List Object) (version : ℕ) (name : Name) (why : PlainReason) (place : ℕ) (m : PlainManifest) → StandsUnread objects version name why place → ManifestAt objects version m → ⊥ }
 {}
 
 /// Whatever its columns and files: more objects change no table that stands, and no rows of fragments.

@@ -7,6 +7,6 @@ pub mod laws;
 mod object;
 mod opening;
 
-pub use fault::{FragmentFault, ManifestReason, ReadFault, Reason};
+pub use fault::{FragmentFault, ManifestReason, PlainReadFault, PlainReason};
 pub use fragment::read_fragment;
 pub use opening::{newest_version, open_newest};

@@ -9,8 +9,8 @@ use Rattle.lan_store.specs.Telling.{Telling}
 use Rattle.lan_store.specs.declared.name.Object.{Object}
 use Rattle.lan_rows.specs.declared.lines.LinesFault.{LinesFault}
 use Rattle.lan_read.specs.Failures.{read_failure}
-use Rattle.lan_read.specs.declared.fault.ReadFault.{ReadFault}
-use Rattle.lan_read.specs.declared.fault.ReadFault.TheVariants as unread
+use Rattle.lan_read.specs.declared.fault.PlainReadFault.{PlainReadFault}
+use Rattle.lan_read.specs.declared.fault.PlainReadFault.TheVariants as unread
 use Rattle.lan_commit.specs.Failures.{change_failure, change_clashed}
 use Rattle.lan_commit.specs.declared.committing.CommitFault.{CommitFault}
 use Rattle.lan_commit.specs.declared.committing.CommitFault.TheVariants as unmade
@@ -29,7 +29,7 @@ use Rattle.lance_cli.specs.Served.{Served}
 use Rattle.lance_cli.specs.declared.fault.Fault.{Fault}
 use Rattle.lance_cli.specs.declared.fault.Fault.TheVariants as fault
 
-pub read_failed : (f : ReadFault) → read_failure {A = Unit {0}} (Err f) ≡ failure_of {A = Unit {0}} (Err (of_read f))
+pub read_failed : (f : PlainReadFault) → read_failure {A = Unit {0}} (Err f) ≡ failure_of {A = Unit {0}} (Err (of_read f))
 read_failed unread.NoDataset = refl
 read_failed (unread.Outside name why place) = refl
 read_failed (unread.Store name) = refl
@@ -55,7 +55,7 @@ scan_failed (unscanned.Store name) = refl
 scan_failed unscanned.Write = refl
 scan_failed unscanned.Memory = refl
 
-pub read_looked : (f : ReadFault) (most : Budget) (s t : Telling) → Looked (read_failure {A = Unit {0}} (Err f)) most s t → Looked (failure_of {A = Unit {0}} (Err (of_read f))) most s t
+pub read_looked : (f : PlainReadFault) (most : Budget) (s t : Telling) → Looked (read_failure {A = Unit {0}} (Err f)) most s t → Looked (failure_of {A = Unit {0}} (Err (of_read f))) most s t
 read_looked f most s t looked = subst (λ o. Looked o most s t) (read_failed f) looked
 
 pub commit_looked : (f : CommitFault) (most : Budget) (s t : Telling) → Looked (change_failure {A = Unit {0}} (Err f)) most s t → Looked (failure_of {A = Unit {0}} (Err (of_commit f))) most s t

@@ -36,10 +36,10 @@ use Rattle.lan_read.specs.Newest.{NewestManifest}
 use Rattle.lan_read.specs.Opens.{OpensNewest}
 use Rattle.lan_read.specs.Reasons.{Stands, StandsUnread}
 use Rattle.lan_read.proofs.LawTerms.{unread_stands, reason_or_table}
-use Rattle.lan_read.specs.declared.fault.Reason.{Reason}
-use Rattle.lan_read.specs.declared.fault.Reason.TheVariants.{File}
-use Rattle.lan_read.specs.declared.fault.ReadFault.{ReadFault}
-use Rattle.lan_read.specs.declared.fault.ReadFault.TheVariants as unread
+use Rattle.lan_read.specs.declared.fault.PlainReason.{PlainReason}
+use Rattle.lan_read.specs.declared.fault.PlainReason.TheVariants.{File}
+use Rattle.lan_read.specs.declared.fault.PlainReadFault.{PlainReadFault}
+use Rattle.lan_read.specs.declared.fault.PlainReadFault.TheVariants as unread
 use Rattle.lan_commit.specs.Commits.{Commits}
 use Rattle.lan_commit.specs.declared.committing.CommitFault.{CommitFault}
 use Rattle.lan_commit.specs.declared.committing.CommitFault.TheVariants as unmade
@@ -161,7 +161,7 @@ put_replied c puts version (Err f) grew prints = absurd prints
 
 -- ---- the newest manifest
 
-outside_of : (asked : Asked) (old : List Object) (name : Name) (why : Reason) (place version : ℕ) → reads_version asked ≡ true → IsNewest old version → StandsUnread old version name why place → IsOutside asked name why place old
+outside_of : (asked : Asked) (old : List Object) (name : Name) (why : PlainReason) (place version : ℕ) → reads_version asked ≡ true → IsNewest old version → StandsUnread old version name why place → IsOutside asked name why place old
 outside_of asked old name why place version reads newest stands =
     let all = unread_stands old version name why place stands in
     (version, reads_it asked reads, (λ t at. reason_or_table old version name why place t all at), stands_it asked reads all) where
@@ -178,20 +178,20 @@ outside_of asked old name why place version reads newest stands =
       stands_it schema reads all = stands
 
 -- the newest manifest isn't read
-pub unopened_plans : (before : Option (List Object)) (r : Request) (f : ReadFault) → reads_version r.asked ≡ true → ForSome before (λ all. OpensNewest all (Err f)) → Plans before r (Err (of_read f))
+pub unopened_plans : (before : Option (List Object)) (r : Request) (f : PlainReadFault) → reads_version r.asked ≡ true → ForSome before (λ all. OpensNewest all (Err f)) → Plans before r (Err (of_read f))
 unopened_plans before r unread.NoDataset reads opens = (reads, opens)
 unopened_plans before r (unread.Outside name why place) reads opens = (reads, λ old was. let (version, newest, stands) = opens old was in outside_of r.asked old name why place version reads newest stands)
 unopened_plans before r (unread.Store name) reads opens = tt
 unopened_plans before r unread.Memory reads opens = tt
 
-pub unopened_scan : (c : Change) (line : ℕ) (lines : List (ℕ × List ℕ)) (f : ReadFault) → ForSome c.before (λ all. OpensNewest all (Err f)) → c.now ≡ c.before → c.holds ≡ c.held → Served c (record { asked = scan; line = line; lines = lines }) (Err (of_read f))
+pub unopened_scan : (c : Change) (line : ℕ) (lines : List (ℕ × List ℕ)) (f : PlainReadFault) → ForSome c.before (λ all. OpensNewest all (Err f)) → c.now ≡ c.before → c.holds ≡ c.held → Served c (record { asked = scan; line = line; lines = lines }) (Err (of_read f))
 unopened_scan c line lines unread.NoDataset opens same bytes = ((refl, opens), same, bytes)
 unopened_scan c line lines (unread.Outside name why place) opens same bytes =
     (unopened_plans c.before (record { asked = scan; line = line; lines = lines }) (unread.Outside name why place) refl opens, same, (λ old was. inl bytes))
 unopened_scan c line lines (unread.Store name) opens same bytes = (inl same, (λ old was. inl bytes))
 unopened_scan c line lines unread.Memory opens same bytes = (inl same, (λ old was. inl bytes))
 
-pub unopened_schema : (c : Change) (line : ℕ) (lines : List (ℕ × List ℕ)) (f : ReadFault) → ForSome c.before (λ all. OpensNewest all (Err f)) → c.now ≡ c.before → c.holds ≡ c.held → Served c (record { asked = schema; line = line; lines = lines }) (Err (of_read f))
+pub unopened_schema : (c : Change) (line : ℕ) (lines : List (ℕ × List ℕ)) (f : PlainReadFault) → ForSome c.before (λ all. OpensNewest all (Err f)) → c.now ≡ c.before → c.holds ≡ c.held → Served c (record { asked = schema; line = line; lines = lines }) (Err (of_read f))
 unopened_schema c line lines f opens same bytes = unplanned_served (record { asked = schema; line = line; lines = lines }) c (of_read f) refl (unopened_plans c.before (record { asked = schema; line = line; lines = lines }) f refl opens) same bytes
 
 unchanged : (c : Change) (old : List Object) → c.now ≡ c.before → c.before ≡ Some old → c.now ≡ Some (old ++ [])

@@ -12,7 +12,7 @@ use Rattle.lan_rows.specs.declared.lines.LinesFault.{LinesFault}
 use Rattle.lan_read.specs.Newest.{NewestManifest}
 use Rattle.lan_read.specs.Reasons.{Stands, StandsUnread}
 use Rattle.lan_read.specs.Standing.{StandsAt}
-use Rattle.lan_read.specs.declared.fault.Reason.{Reason}
+use Rattle.lan_read.specs.declared.fault.PlainReason.{PlainReason}
 use Rattle.lan_commit.specs.First.{first_limit}
 use Rattle.lan_commit.specs.Puts.{limit_of_append}
 use Rattle.lan_commit.specs.declared.limits.Which.{Which}
@@ -32,7 +32,7 @@ Reads objects scan version = IsNewest objects version
 Reads objects schema version = IsNewest objects version
 
 -- the reason stands in what the command reads of the version: one that prints rows reads all of it, and the others its manifest
-abbrev pub StandsIn : Asked → List Object → ℕ → Name → Reason → ℕ → Type 0
+abbrev pub StandsIn : Asked → List Object → ℕ → Name → PlainReason → ℕ → Type 0
 StandsIn (create json) objects version name why place = ⊥
 StandsIn append objects version name why place = StandsUnread objects version name why place
 StandsIn scan objects version name why place = Stands objects version name why place
@@ -83,7 +83,7 @@ Limited objects r schema which number = ⊥
 -- ---- the causes
 
 -- a version that the command reads stands for no table, and the reason stands in what is read
-abbrev pub IsOutside : Asked → Name → Reason → ℕ → List Object → Type 0
+abbrev pub IsOutside : Asked → Name → PlainReason → ℕ → List Object → Type 0
 IsOutside asked name why place objects = (version : ℕ) × Reads objects asked version × ((t : Table) → StandsAt objects version t → ⊥) × StandsIn asked objects version name why place
 
 -- why the requested command is refused on these objects

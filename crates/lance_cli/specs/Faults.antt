@@ -12,15 +12,15 @@ use Rattle.lan_form.specs.declared.faults.FormFault.TheVariants as form
 use Rattle.lan_rows.specs.Why.{why_line}
 use Rattle.lan_rows.specs.declared.lines.LinesFault.{LinesFault}
 use Rattle.lan_rows.specs.declared.lines.LinesFault.TheVariants as lines
-use Rattle.lan_read.specs.declared.fault.ReadFault.{ReadFault}
-use Rattle.lan_read.specs.declared.fault.ReadFault.TheVariants as unread
+use Rattle.lan_read.specs.declared.fault.PlainReadFault.{PlainReadFault}
+use Rattle.lan_read.specs.declared.fault.PlainReadFault.TheVariants as unread
 use Rattle.lan_commit.specs.declared.committing.CommitFault.{CommitFault}
 use Rattle.lan_commit.specs.declared.committing.CommitFault.TheVariants as unmade
 use Rattle.lan_scan.specs.declared.scanning.ScanFault.{ScanFault}
 use Rattle.lan_scan.specs.declared.scanning.ScanFault.TheVariants as unscanned
 use Rattle.lan_read.specs.declared.fault.ManifestReason.TheVariants as manifest
-use Rattle.lan_read.specs.declared.fault.Reason.{Reason}
-use Rattle.lan_read.specs.declared.fault.Reason.TheVariants as reason
+use Rattle.lan_read.specs.declared.fault.PlainReason.{PlainReason}
+use Rattle.lan_read.specs.declared.fault.PlainReason.TheVariants as reason
 use Rattle.lan_commit.specs.declared.limits.Which.{Which}
 use Rattle.lan_commit.specs.declared.limits.Which.TheVariants as limit
 
@@ -71,7 +71,7 @@ file_code file.Plain = codes "file-plain"
 file_code (file.Rows stated asked) = codes "file-rows " ++ (decimal stated ++ (codes " " ++ decimal asked))
 
 -- the code of a reason
-abbrev pub reason_code : Reason → List ℕ
+abbrev pub reason_code : PlainReason → List ℕ
 reason_code reason.Missing = codes "missing"
 reason_code reason.Size = codes "size"
 reason_code reason.Short = codes "short"
@@ -102,7 +102,7 @@ fault_text fault.Memory = codes "out of memory"
 fault_text fault.NotBuilt = codes "not built"
 
 -- the faults of reading, of a change and of printing, as the program's own
-abbrev pub of_read : ReadFault → Fault
+abbrev pub of_read : PlainReadFault → Fault
 of_read unread.NoDataset = fault.NoDataset
 of_read (unread.Outside name why place) = fault.Outside name why place
 of_read (unread.Store name) = fault.StoreFault name

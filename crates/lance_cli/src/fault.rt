@@ -6,7 +6,7 @@ ghost use Rattle.lance_cli.specs.declared.fault.Fault.TheVariants.{Memory};
 use lan_commit::{CommitFault, Which};
 use lan_form::FormFault;
 use lan_model::Text;
-use lan_read::{ReadFault, Reason};
+use lan_read::{PlainReadFault, PlainReason};
 use lan_rows::{LinesFault, why_line};
 use lan_scan::ScanFault;
 use lan_store::Name;
@@ -56,7 +56,7 @@ pub enum Fault {
     Limit(Which, u64),
     /// An object that isn't read: why, and at which byte, counted from the object's front.
     #[error("Outside")]
-    Outside(Name, Reason, u64),
+    Outside(Name, PlainReason, u64),
     /// An object of this name was held, though it wasn't listed.
     #[error("Raced")]
     Raced(Name),
@@ -82,15 +82,15 @@ impl From<AllocError> for Fault {
     }
 }
 
-impl From<ReadFault> for Fault {
+impl From<PlainReadFault> for Fault {
     ghost from_gives = { λ fault e. e ≡ of_read fault };
 
-    fn from(fault: ReadFault) -> Self {
+    fn from(fault: PlainReadFault) -> Self {
         match fault {
-            ReadFault::NoDataset => Fault::NoDataset,
-            ReadFault::Outside(name, reason, place) => Fault::Outside(name, reason, place),
-            ReadFault::Store(name) => Fault::StoreFault(name),
-            ReadFault::Memory => Fault::Memory,
+            PlainReadFault::NoDataset => Fault::NoDataset,
+            PlainReadFault::Outside(name, reason, place) => Fault::Outside(name, reason, place),
+            PlainReadFault::Store(name) => Fault::StoreFault(name),
+            PlainReadFault::Memory => Fault::Memory,
         }
     }
 }
@@ -115,7 +115,7 @@ impl From<ScanFault> for Fault {
     fn from(fault: ScanFault) -> Self {
         match fault {
             ScanFault::Outside(name, reason, place) => {
-                Fault::Outside(name, Reason::File(reason), place)
+                Fault::Outside(name, PlainReason::File(reason), place)
             }
             ScanFault::Store(name) => Fault::StoreFault(name),
             ScanFault::Write => Fault::WriteFault,

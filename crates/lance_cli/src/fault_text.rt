@@ -7,7 +7,7 @@ use crate::fault::Fault;
 use lan_commit::Which;
 use lan_file::FileReason;
 use lan_model::Text;
-use lan_read::{ManifestReason, Reason};
+use lan_read::{ManifestReason, PlainReason};
 use serde_json::Value;
 use std::alloc::{AllocError, Global};
 
@@ -105,15 +105,15 @@ fn which_text(which: Which) -> &'static str
     }
 }
 
-fn reason_code(alloc: Global, reason: &Reason) -> Result<String, AllocError>
+fn reason_code(alloc: Global, reason: &PlainReason) -> Result<String, AllocError>
     ensures { IfOk result (λ code. string_bytes code ≡ reason_code reason.now) }
 {
     match reason {
-        Reason::Missing => String::from_str(alloc, "missing"),
-        Reason::Size => String::from_str(alloc, "size"),
-        Reason::Short => String::from_str(alloc, "short"),
-        Reason::Manifest(ManifestReason::Plain) => String::from_str(alloc, "manifest-plain"),
-        Reason::File(reason) => file_code(alloc, *reason),
+        PlainReason::Missing => String::from_str(alloc, "missing"),
+        PlainReason::Size => String::from_str(alloc, "size"),
+        PlainReason::Short => String::from_str(alloc, "short"),
+        PlainReason::Manifest(ManifestReason::Plain) => String::from_str(alloc, "manifest-plain"),
+        PlainReason::File(reason) => file_code(alloc, *reason),
     }
 }
 

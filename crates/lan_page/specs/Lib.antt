@@ -4,4 +4,5 @@ pub mod Places
 pub mod Asking
 pub mod Walks
 pub mod Giving
+pub mod Columns
 pub mod Laws

@@ -9,7 +9,7 @@ pub mod Newest
 pub mod Opens
 pub mod Reasons
 pub mod Rows
-pub mod Stage
 pub mod Snapshots
+pub mod Stage
 pub mod Standing
 pub mod Tables

@@ -6,7 +6,9 @@ mod fragment;
 pub mod laws;
 mod object;
 mod opening;
+mod read_fault;
 
 pub use fault::{FragmentFault, ManifestReason, PlainReadFault, PlainReason};
 pub use fragment::read_fragment;
 pub use opening::{newest_version, open_newest};
+pub use read_fault::{ReadFault, Reason};

@@ -4,7 +4,7 @@ use std::alloc::AllocError;
 
 /// Why an object stands for no manifest of a version. A fragment is named by its id. From `VersionDiffers`
 /// on each fault presumes that those above it stand for no fragment.
-#[derive(Drop)]
+#[derive(Debug, Drop)]
 pub enum ManifestFault {
     /// It has under 20 bytes.
     TooShort,

@@ -10,7 +10,7 @@ use std::alloc::AllocError;
 
 /// Why a stored object isn't what a version says of it. The place that goes with each counts bytes from
 /// the object's front, unless it says otherwise.
-#[derive(Drop)]
+#[derive(Debug, Drop)]
 pub enum Reason {
     /// No object of a manifest's name is held; at 0.
     Missing,
@@ -33,7 +33,7 @@ pub enum Reason {
 }
 
 /// Why a version, or its rows, aren't read.
-#[derive(Drop)]
+#[derive(Debug, Drop)]
 pub enum ReadFault {
     /// No version is listed.
     NoDataset,

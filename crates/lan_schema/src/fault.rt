@@ -7,7 +7,7 @@ use std::alloc::{AllocError, AllocFailed};
 
 /// Why messages stand for no fields. A number is that of a field; each fault presumes that those above
 /// it stand for no field.
-#[derive(Drop)]
+#[derive(Debug, Drop)]
 pub enum SchemaFault {
     /// The messages can't be read, and where.
     Wire(WireFault),

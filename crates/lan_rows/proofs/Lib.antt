@@ -9,3 +9,7 @@ pub mod RowsLemmas
 pub mod Unnumbered
 pub mod BitsStand
 pub mod RowStands
+pub mod FewRows
+pub mod RowRoom
+pub mod RowsStep
+pub mod LawTerms

@@ -4,6 +4,6 @@ pub mod Values
 pub mod Fitting
 pub mod Line
 pub mod RowOf
-pub mod Laws
 pub mod Lines
+pub mod Laws
 pub mod Why

@@ -1,5 +1,5 @@
 -- The lines of an input, and the rows that they are.
-use Rattle.std.specs.Prelude.{ℕ, ◌+◌, ◌^◌, nat_le, nat_eq, length, List, [], ◌∷◌, ◌++◌, cond, Result, Ok, Err}
+use Rattle.std.specs.Prelude.{ℕ, ◌+◌, ◌^◌, nat_le, nat_eq, length, List, [], ◌∷◌, ◌++◌, cond, Option, Some, None, Result, Ok, Err}
 use Rattle.lan_model.specs.Plain.{PlainField, PlainValue}
 use Rattle.lan_rows.specs.Judged.{Judged}
 use Rattle.lan_rows.specs.Values.{line_row}
@@ -23,6 +23,15 @@ numbered number (Err fault) = Err (Bad number fault)
 -- the row of a numbered line, of at most 2^26 bytes
 abbrev pub row_at : {I : Type 0} → List (PlainField I) → ℕ × List ℕ → Result (List PlainValue) LinesFault
 row_at fields line = cond (nat_le (length line.1) (2 ^ 26)) (numbered line.0 (line_row fields line.1)) (Err (LineTooLong line.0))
+
+abbrev pub found_row : Result (List PlainValue) LinesFault → Result (Option (List PlainValue)) LinesFault
+found_row (Ok row) = Ok (Some row)
+found_row (Err fault) = Err fault
+
+-- the row of the first line, and none where there is no line
+abbrev pub first_row : {I : Type 0} → List (PlainField I) → List (ℕ × List ℕ) → Result (Option (List PlainValue)) LinesFault
+first_row fields [] = Ok None
+first_row fields (line ∷ lines) = found_row (row_at fields line)
 
 abbrev pub and_rows : Result (List PlainValue) LinesFault → Result (List (List PlainValue)) LinesFault → Result (List (List PlainValue)) LinesFault
 and_rows (Err fault) rows = Err fault

@@ -5,7 +5,8 @@ ghost use Rattle.serde_json.specs.View.{view, members_view};
 ghost use Rattle.lan_model.specs.Plain.{plain_field, plain_fields, plain_value, plain_values};
 ghost use Rattle.lan_model.specs.Fits.{EachFits};
 ghost use Rattle.lan_model.specs.PlainTable.{column_of};
-ghost use Rattle.lan_model.specs.Table.{FitsRow};
+ghost use Rattle.lan_model.specs.Room.{AllHaveRoom};
+ghost use Rattle.lan_model.specs.Table.{AreColumns, FitsRow};
 ghost use Rattle.lan_rows.specs.Values.{value_of, row_values, line_row, badness};
 ghost use Rattle.lan_rows.specs.declared.faults.RowFault.TheVariants.{Memory, Json};
 
@@ -19,6 +20,7 @@ use std::alloc::Global;
 pub fn read_row(alloc: Global, fields: &FieldList, line: &[u8]) -> Result<Row, RowFault>
     ensures ok { IfOk result (λ row. line_row (map column_of fields.now) line.now ≡ Ok (map plain_value row)) }
     ensures fit { IfOk result (λ row. FitsRow (map plain_field fields.now) (map plain_value row)) }
+    ensures room { AreColumns (map column_of fields.now) → IfOk result (λ row. AllHaveRoom (plain_values row)) }
     ensures err { IfErr result (λ e. (e ≡ RowFault.Memory) ⊎ (badness (map column_of fields.now) line.now ≡ Some e)) }
 {
     read_fields(alloc, fields.as_slice(), line)

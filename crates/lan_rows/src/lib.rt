@@ -11,7 +11,7 @@ mod values;
 mod words;
 
 pub use faults::RowFault;
-pub use lines::{LinesFault, MAX_LINE, read_rows};
+pub use lines::{LinesFault, MAX_LINE, RowLines, read_rows};
 pub use printing::{RowPrinter, print_row};
 pub use reading::read_row;
 pub use words::{why, why_line};

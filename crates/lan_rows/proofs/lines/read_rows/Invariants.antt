@@ -1,17 +1,18 @@
-use Rattle.std.proofs.Common.{◌≡◌, ◌+◌, ◌≤◌, [], length, map}
+use Rattle.std.proofs.Common.{◌≡◌, length, map}
 use Rattle.std.specs.Prelude.{All}
-use Rattle.lan_model.specs.Plain.{plain_field}
+use Rattle.lan_model.specs.Plain.{plain_field, values_from}
 use Rattle.lan_model.specs.PlainTable.{column_of, row_of}
-use Rattle.lan_model.specs.Table.{FitsRow}
-use Rattle.lan_rows.specs.Lines.{cut, rows_of, behind}
+use Rattle.lan_model.specs.Room.{AllHaveRoom}
+use Rattle.lan_model.specs.Table.{AreColumns, FitsRow}
+use Rattle.lan_rows.specs.Lines.{lines_of, rows_of, behind}
 use Rattle.lan_rows.proofs.lines.read_rows.Given as goal
 
-abbrev pub invariant-loop-rest : goal.invariant-loop-rest
-invariant-loop-rest l = record {
-  rows : rows_of (map column_of l.fn.fields) (cut 1 [] l.fn.input) ≡ behind (map row_of l.rows) (rows_of (map column_of l.fields) (cut (l.number + 1) [] l.rest));
+abbrev pub invariant-loop-rows : goal.invariant-loop-rows
+invariant-loop-rows l = record {
+  rows : rows_of (map column_of l.fn.fields) (lines_of l.fn.input) ≡ behind (map row_of l.rows) (rows_of (map column_of l.fields) l.lines);
   fit : All (FitsRow (map plain_field l.fn.fields)) (map row_of l.rows);
-  lines : l.number + length l.rest ≤ length l.input;
+  room : AreColumns (map column_of l.fn.fields) → All (λ row. AllHaveRoom (values_from row)) (map row_of l.rows);
 }
 
-abbrev pub decreases-loop-rest : goal.decreases-loop-rest
-decreases-loop-rest l = length l.rest
+abbrev pub decreases-loop-rows : goal.decreases-loop-rows
+decreases-loop-rows l = length l.lines

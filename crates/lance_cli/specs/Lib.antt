@@ -11,6 +11,7 @@ pub mod Laws
 pub mod Lines
 pub mod Plans
 pub mod Puts
+pub mod ReasonCodes
 pub mod Replies
 pub mod Reports
 pub mod Runs

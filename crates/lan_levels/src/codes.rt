@@ -1,6 +1,6 @@
 ghost use Rattle.std.specs.Prelude.{◌≡◌, ◌↔◌, ℕ, ◌+◌, ◌<◌, ◌≤◌, length, map, take, All, Some, None, slice_get, IfOk, IfSome, IfNone, IsTrue};
 ghost use Rattle.lan_model.specs.Leaves.{plain_leaf};
-ghost use Rattle.lan_levels.specs.Codes.{layer_code, FitsCode, FitCodes, IsCode, code_states, states_from, states_of, IsBare};
+ghost use Rattle.lan_levels.specs.Codes.{layer_code, FitsCode, FitCodes, IsCode, code_states, states_from, states_of, HasNumber, IsBare};
 ghost use Rattle.lan_levels.specs.SlotsOf.{lists_in};
 
 use crate::slot::State;
@@ -140,6 +140,21 @@ fn has_list(layers: &[Layer]) -> bool
     false
 }
 
+/// How many of the layers are lists.
+pub fn lists_in(layers: &[Layer]) -> u16
+    requires { length layers.now ≤ 16 }
+    ensures value { result ≡ lists_in layers.now }
+    ensures few { result ≤ 16 }
+{
+    let mut count = 0;
+    for layer in layers {
+        if let Layer::List { .. } = layer {
+            count += 1;
+        }
+    }
+    count
+}
+
 /// The state that the number stands for.
 pub fn state_of(codes: &Codes, number: u16) -> Option<State>
     requires few { length codes.now ≤ 16 }
@@ -193,6 +208,19 @@ pub fn number_of(codes: &Codes, state: State) -> Option<u16>
             let place = layer_place(codes.as_slice(), state)?;
             Some(place + 1)
         }
+    }
+}
+
+/// The number that stands for the state, where one is known to do so.
+pub fn known_number(codes: &Codes, state: State) -> u16
+    requires few { length codes.now ≤ 16 }
+    requires codes { All IsCode codes.now }
+    requires numbered { HasNumber (states_of codes.now) state }
+    ensures { slice_get (states_of codes.now) result ≡ Some state }
+{
+    match number_of(codes, state) {
+        Some(number) => number,
+        None => 0,
     }
 }
 

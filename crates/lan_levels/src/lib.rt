@@ -16,7 +16,9 @@ mod walk;
 
 pub use assembling::assemble;
 pub use buffer::SlotBuf;
-pub use codes::{Codes, codes_fit, codes_of, greatest, is_bare, number_of, state_of};
+pub use codes::{
+    Codes, codes_fit, codes_of, greatest, is_bare, known_number, lists_in, number_of, state_of,
+};
 pub use join::Join;
 pub use shape::{Shape, ValueForm, ValueKind};
 pub use shredding::shred;

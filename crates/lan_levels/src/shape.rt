@@ -1,5 +1,9 @@
+ghost use Rattle.std.specs.Prelude.{◌≡◌};
+ghost use Rattle.lan_model.specs.Plain.{plain_type};
+ghost use Rattle.lan_levels.specs.ZipForm.{kind_of};
+
 use crate::codes::Codes;
-use lan_model::{Blob, Leaf};
+use lan_model::{Blob, Leaf, Ty, width};
 
 /// How the values of a page's slots are stored.
 #[derive(Drop)]
@@ -10,6 +14,21 @@ pub enum ValueKind {
     Variable,
     /// Each value has these bytes, and the page stores none; a bool has one byte, 0 for false.
     Constant(Blob),
+}
+
+impl ValueKind {
+    /// How the writer stores values of that type, where a page stores any.
+    pub fn of(ty: &Ty) -> ValueKind
+        ensures { result ≡ kind_of (plain_type ty.now) }
+    {
+        match ty {
+            Ty::Bits(primitive) => ValueKind::Flat(u64::from(width(*primitive))),
+            Ty::Vector(primitive, count) => {
+                ValueKind::Flat(u64::from(*count) * u64::from(width(*primitive)))
+            }
+            _ => ValueKind::Variable,
+        }
+    }
 }
 
 /// How a value stands in a slot of a full-zip page.

@@ -31,3 +31,4 @@ pub mod Chosen
 pub mod ZipWalks
 pub mod ZipFirst
 pub mod ZipSpelling
+pub mod Ranges

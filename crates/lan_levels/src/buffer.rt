@@ -1,5 +1,6 @@
-ghost use Rattle.std.specs.Prelude.{◌≡◌, [], ◌∷◌, ◌++◌, ◌<◌, ℕ, List as Sequence, length, slice_get, Some, IfOk, OnOk, OnErr};
-ghost use Rattle.lan_levels.specs.PlainSlots.{plain_piece, plain_slot};
+ghost use Rattle.std.specs.Prelude.{◌≡◌, [], ◌∷◌, ◌++◌, ◌<◌, ◌≤◌, ℕ, List as Sequence, length, slice_get, Some, IfOk, OnOk, OnErr};
+ghost use Rattle.lan_levels.specs.PlainSlots.{plain_piece, plain_slot, range};
+ghost use Rattle.lan_levels.specs.ZipSlots.{starts};
 ghost use Rattle.lan_levels.specs.Kept.{kept_piece, IsWithin, Keeping};
 
 use crate::slot::{Piece, Slot, State};
@@ -84,6 +85,66 @@ impl SlotBuf {
             state: kept.state,
             value: lent(self.bytes.as_slice(), &kept.value),
         }
+    }
+
+    /// Lends the slots from `from` to before `to`.
+    pub fn part(&self, from: u64, to: u64) -> SlotPart<'_>
+        requires front { from ≤ to }
+        requires end { to ≤ length self.now }
+        ensures { result ≡ range self.now from to }
+    {
+        SlotPart {
+            all: self,
+            from,
+            to,
+        }
+    }
+}
+
+/// Slots of a buffer that stand one after another. A contract sees their list.
+#[derive(Drop)]
+pub struct SlotPart<'a> {
+    all: &'a SlotBuf,
+    from: u64,
+    to: u64,
+}
+
+impl<'a> Model for SlotPart<'a> {
+    ghost use Rattle.std.specs.Prelude.{List as Sequence, ◌<◌, ◌≤◌, ◌^◌, length};
+    ghost use Rattle.lan_levels.specs.PlainSlots.{PlainSlot, range};
+
+    ghost Value = { Sequence PlainSlot };
+
+    ghost view = { λ p. range p.all.now p.from p.to };
+
+    ghost invariant = { λ p. (p.from ≤ p.to) × (p.to ≤ length p.all.now) × (p.to < 2 ^ 64) };
+}
+
+impl<'a> SlotPart<'a> {
+    /// How many slots there are.
+    pub fn len(&self) -> u64
+        ensures { result ≡ length self.now }
+    {
+        self.to - self.from
+    }
+
+    /// Lends the slot at a place, counted from 0.
+    pub fn slot(&self, i: u64) -> Slot<'a>
+        requires { i < length self.now }
+        ensures { slice_get self.now i ≡ Some (plain_slot result) }
+    {
+        self.all.slot(self.from + i)
+    }
+
+    /// How many rows begin with the slots, of a leaf with so many list layers.
+    pub fn row_starts(&self, lists: u16) -> u64
+        ensures { result ≡ starts lists self.now }
+    {
+        let mut count = 0;
+        for i in 0..self.len() {
+            count += self.slot(i).row_start(lists);
+        }
+        count
     }
 }
 

@@ -15,7 +15,7 @@ mod slot;
 mod walk;
 
 pub use assembling::assemble;
-pub use buffer::SlotBuf;
+pub use buffer::{SlotBuf, SlotPart};
 pub use codes::{
     Codes, codes_fit, codes_of, greatest, is_bare, known_number, lists_in, number_of, state_of,
 };

@@ -1,3 +1,5 @@
+ghost use Rattle.std.specs.Prelude.{◌≡◌, ◌==◌, ◌≤◌, cond};
+
 use lan_model::List;
 
 /// Whether a slot has a value and, where not, which layer of its leaf is null or an empty list.
@@ -30,6 +32,16 @@ pub struct Slot<'a> {
     pub rep: u16,
     pub state: State,
     pub value: Piece<'a>,
+}
+
+impl<'a> Slot<'a> {
+    /// How many rows begin with the slot, of a leaf with so many list layers: one or none.
+    pub fn row_start(self, lists: u16) -> u64
+        ensures value { result ≡ cond (self.entry.rep == lists) 1 0 }
+        ensures few { result ≤ 1 }
+    {
+        if self.rep == lists { 1 } else { 0 }
+    }
 }
 
 pub type Slots<'a> = List<Slot<'a>>;

@@ -1,6 +1,7 @@
 -- Slots that are written one after another.
-use Rattle.std.proofs.Common.{◌≡◌, ℕ, zero, suc, ◌+◌, ◌-◌, ◌*◌, ◌^◌, ◌<◌, ◌≤◌, ◌↔◌, Bool, true, false, cond, List, [], ◌∷◌, ◌++◌, Some, length, take, drop, get_or, slice_get, All, refl, ap, ap₂, subst, sym, ◌∙◌, arith, append_assoc, length-append, length-drop}
-use Rattle.std.proofs.lemmas.List.{append-nil, take_more, get_or-drop, get_or-take, length-take-le}
+use Rattle.std.proofs.Common.{◌≡◌, ℕ, zero, suc, ◌+◌, ◌-◌, ◌*◌, ◌^◌, ◌<◌, ◌≤◌, ◌↔◌, Bool, true, false, cond, List, [], ◌∷◌, ◌++◌, Some, length, slice_get, refl, ap, ap₂, sym, ◌∙◌, arith, append_assoc, length-append}
+use Rattle.std.proofs.lemmas.List.{append-nil}
+use Rattle.std.proofs.lemmas.Option.{slice_get_within}
 use Rattle.std.proofs.lemmas.Bool.{ltb_from_iff}
 use Rattle.std.specs.List.{concat}
 use Rattle.lan_bytes.specs.Numbers.{low_first}
@@ -11,8 +12,9 @@ use Rattle.lan_levels.specs.declared.slot.State.TheVariants as state
 use Rattle.lan_levels.specs.Codes.{IsBare}
 use Rattle.lan_levels.specs.ZipForm.{PlainForm}
 use Rattle.lan_levels.specs.ZipSlots.{is_bare}
-use Rattle.lan_levels.specs.ZipWritten.{value_bytes, slot_bytes, SlotIs, PartsAre, begins, row_starts, Gathered, CanStand}
+use Rattle.lan_levels.specs.ZipWritten.{value_bytes, slot_bytes, SlotIs, PartsAre, begins, row_starts, Gathered}
 use Rattle.lan_zip.specs.Building.{Appends}
+pub use Rattle.lan_levels.proofs.Ranges.{range_more}
 
 concat_last : (ps : List (List ℕ)) (p : List ℕ) → concat (ps ++ p ∷ []) ≡ concat ps ++ p
 concat_last [] p = append-nil p
@@ -54,39 +56,8 @@ gathered_more f ss s content starts now begun g e a = record {
       ∙ sym (starts_last f 0 ss g.parts s a.part g.are);
 }
 
-found_at : (xs : List PlainSlot) (i : ℕ) (s d : PlainSlot) → slice_get xs i ≡ Some s → (i < length xs) × (get_or xs i d ≡ s)
-found_at [] i s d e = absurd (cc)
-found_at (x ∷ xs) zero s d e = (omega arith, cc)
-found_at (x ∷ xs) (suc i) s d e = let h = found_at xs i s d e in let lt = h.0 in (omega arith, h.1)
-
-pub range_more : (xs : List PlainSlot) (from i : ℕ) (s : PlainSlot) → from ≤ i → slice_get xs i ≡ Some s → take (i + 1 - from) (drop from xs) ≡ take (i - from) (drop from xs) ++ s ∷ []
-range_more xs from i s le e =
-    let k = i - from in
-    let h = found_at xs i s s e in
-    let place : from + k ≡ i = omega arith in
-    let count : i + 1 - from ≡ k + 1 = omega arith in
-    let lt = h.0 in
-    let is : get_or (drop from xs) k s ≡ s = get_or-drop from xs k s ∙ ap (λ (j : ℕ). get_or xs j s) place ∙ h.1 in
-    ap (λ (n : ℕ). take n (drop from xs)) count
-    ∙ take_more (drop from xs) k s (omega (arith, length-drop from xs))
-    ∙ ap (λ (x : PlainSlot). take k (drop from xs) ++ x ∷ []) is
-
-pub stands_at : (f : PlainForm) (xs : List PlainSlot) (from to i : ℕ) (s : PlainSlot) → from ≤ i → i < to → to ≤ length xs → slice_get xs i ≡ Some s → All (CanStand f) (take (to - from) (drop from xs)) → CanStand f s
-stands_at f xs from to i s le lt end e h =
-    let k = i - from in
-    let g = found_at xs i s s e in
-    let place : from + k ≡ i = omega arith in
-    let count : length (take (to - from) (drop from xs)) ≡ to - from = length-take-le (to - from) (drop from xs) (omega (arith, length-drop from xs)) in
-    let is : get_or (take (to - from) (drop from xs)) k s ≡ s = get_or-take (to - from) (drop from xs) k s (omega arith) ∙ get_or-drop from xs k s ∙ ap (λ (j : ℕ). get_or xs j s) place ∙ g.1 in
-    subst (CanStand f) is (h k s (omega arith))
-
-below_length : (xs : List State) (n : ℕ) (s : State) → slice_get xs n ≡ Some s → n < length xs
-below_length [] n s e = absurd (cc)
-below_length (x ∷ xs) zero s e = omega arith
-below_length (x ∷ xs) (suc n) s e = let lt = below_length xs n s e in omega arith
-
 pub number_below : (xs : List State) (n m : ℕ) (s : State) → slice_get xs n ≡ Some s → length xs ≤ m → n < m
-number_below xs n m s e le = let lt = below_length xs n s e in omega arith
+number_below xs n m s e le = let lt = slice_get_within xs n s e in omega arith
 
 pub bare_is : (layers : List Layer) (s : State) (b : Bool) → (b ≡ true) ↔ IsBare layers s → b ≡ is_bare layers s
 bare_is layers state.Here true h = absurd (h.0 refl)

@@ -12,7 +12,7 @@ use Rattle.lan_model.specs.Fits.{FitsBits, FitsRaw, EachFits}
 use Rattle.lan_model.specs.Leaves.{PlainLeaf, leaves_from}
 use Rattle.lan_levels.specs.declared.slot.State.{State}
 use Rattle.lan_levels.specs.declared.slot.State.TheVariants as state
-use Rattle.lan_levels.specs.Codes.{layer_code, code_states, states_from, states_of}
+use Rattle.lan_levels.specs.Codes.{layer_code, code_states, states_from, states_of, HasNumber}
 use Rattle.lan_levels.specs.PlainSlots.{PlainPiece, nothing, PlainSlot}
 use Rattle.lan_levels.specs.SlotsOf.{piece_of, lists_in, at_place, flat, slot, slots_of, row_slots, rows_slots}
 use Rattle.lan_levels.proofs.Growth.{lists_in-reverse}
@@ -21,7 +21,6 @@ use Rattle.lan_levels.specs.declared.shape.ValueForm.{ValueForm}
 use Rattle.lan_levels.specs.declared.shape.ValueForm.TheVariants as value
 use Rattle.lan_levels.specs.ZipForm.{PlainForm, value_form, kind_of, leaf_form}
 use Rattle.lan_levels.specs.ZipWritten.{FitsForm, CanStand}
-use Rattle.lan_zip.specs.Building.{HasNumber}
 use Rattle.lan_model.specs.Room.{AllHaveRoom}
 use Rattle.lan_zip.proofs.Paths.{EachValue, FitsPath, RowFits, fitting_row}
 

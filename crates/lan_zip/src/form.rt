@@ -1,12 +1,11 @@
 ghost use Rattle.std.specs.Prelude.{◌≡◌, ◌⊎◌, ◌+◌, ◌-◌, ◌*◌, ◌^◌, ◌<◌, ◌≤◌, length};
 ghost use Rattle.lan_levels.specs.Codes.{FitCodes, states_of};
-ghost use Rattle.lan_levels.specs.SlotsOf.{lists_in};
 ghost use Rattle.lan_model.specs.Plain.{plain_type};
 ghost use Rattle.lan_zip.specs.Form.{IsForm, plain_form};
 ghost use Rattle.lan_levels.specs.ZipForm.{digits, form_of, value_form, word_size};
 
-use lan_levels::{Codes, Shape, ValueForm, ValueKind, greatest};
-use lan_model::{Layer, Leaf, Primitive, Ty};
+use lan_levels::{Codes, Shape, ValueForm, ValueKind, greatest, lists_in};
+use lan_model::{Leaf, Primitive, Ty};
 
 /// What each slot of a page is read by, established once.
 #[derive(Clone, Copy)]
@@ -32,7 +31,7 @@ impl<'a> Form<'a> {
         ensures value { plain_form result ≡ form_of shape.entry }
         ensures is { IsForm result }
     {
-        let lists = lists(shape.leaf.layers.as_slice());
+        let lists = lists_in(shape.leaf.layers.as_slice());
         let bits = digits(greatest(shape.codes));
         Form {
             codes: shape.codes,
@@ -44,21 +43,6 @@ impl<'a> Form<'a> {
             value: value_form(&shape.leaf.ty, shape.values),
         }
     }
-}
-
-/// How many of the layers are lists.
-fn lists(layers: &[Layer]) -> u16
-    requires { length layers.now ≤ 16 }
-    ensures value { result ≡ lists_in layers.now }
-    ensures few { result ≤ 16 }
-{
-    let mut count = 0;
-    for layer in layers {
-        if let Layer::List { .. } = layer {
-            count += 1;
-        }
-    }
-    count
 }
 
 /// How many binary digits the number has, none for 0.

@@ -1,19 +1,17 @@
-ghost use Rattle.std.specs.Prelude.{◌≡◌, ◌==◌, ◌||◌, [], ◌+◌, ◌-◌, ◌*◌, ◌^◌, ◌++◌, ◌<◌, ◌≤◌, cond, length, take, drop, slice_get, Some, All, IfOk, OnOk, IsTrue};
+ghost use Rattle.std.specs.Prelude.{◌≡◌, ◌==◌, ◌||◌, [], ◌+◌, ◌-◌, ◌*◌, ◌^◌, ◌++◌, ◌<◌, ◌≤◌, cond, length, take, drop, All, IfOk, OnOk, IsTrue};
 ghost use Rattle.lan_bytes.specs.Numbers.{low_first};
-ghost use Rattle.lan_model.specs.Plain.{plain_type};
-ghost use Rattle.lan_levels.specs.Codes.{states_of};
 ghost use Rattle.lan_levels.specs.PlainSlots.{plain_piece, plain_slot};
 ghost use Rattle.lan_zip.specs.Form.{IsForm, plain_form};
-ghost use Rattle.lan_levels.specs.ZipForm.{written_form, kind_of};
+ghost use Rattle.lan_levels.specs.ZipForm.{written_form};
 ghost use Rattle.lan_levels.specs.ZipWritten.{CanStand, value_bytes, is_indexed, Gathered, ArePage};
-ghost use Rattle.lan_zip.specs.Building.{HasNumber, IsShort, Appends};
+ghost use Rattle.lan_zip.specs.Building.{IsShort, Appends};
 
 use crate::form::Form;
 use lan_bytes::Out;
 use lan_levels::{
-    Piece, Shape, Slot, SlotBuf, State, ValueForm, ValueKind, codes_of, is_bare, number_of,
+    Piece, Shape, Slot, SlotBuf, SlotPart, ValueForm, ValueKind, codes_of, is_bare, known_number,
 };
-use lan_model::{Blobs, Leaf, List, Ty, width};
+use lan_model::{Blobs, Leaf, List};
 use std::alloc::{AllocError, Global};
 
 /// The buffers of the full-zip page of the slots from `from` to before `to`.
@@ -37,7 +35,7 @@ pub fn build_page(
     ensures { IfOk result (ArePage (written_form leaf.now) (take (to - from) (drop from slots.now))) }
 {
     let codes = codes_of(alloc, leaf)?;
-    let kind = kind_of(&leaf.ty);
+    let kind = ValueKind::of(&leaf.ty);
     let form = Form::of(Shape {
         codes: &codes,
         leaf,
@@ -45,7 +43,7 @@ pub fn build_page(
     });
     let mut content = Out::new(alloc);
     let mut starts = Out::new(alloc);
-    gather(&form, slots, from, to, &mut content, &mut starts)?;
+    gather(&form, &slots.part(from, to), &mut content, &mut starts)?;
     starts.num(content.len(), 8)?;
     let mut buffers = List::new(alloc);
     buffers.push(List::from_vec(content.finish()))?;
@@ -53,17 +51,6 @@ pub fn build_page(
         buffers.push(List::from_vec(starts.finish()))?;
     }
     Ok(buffers)
-}
-
-/// How values of a leaf of that type are stored.
-fn kind_of(ty: &Ty) -> ValueKind
-    ensures { result ≡ kind_of (plain_type ty.now) }
-{
-    match ty {
-        Ty::Bits(prim) => ValueKind::Flat(u64::from(width(*prim))),
-        Ty::Vector(prim, n) => ValueKind::Flat(u64::from(*n) * u64::from(width(*prim))),
-        _ => ValueKind::Variable,
-    }
 }
 
 /// Whether a page has the places of its rows.
@@ -86,20 +73,16 @@ fn put_start(form: &Form<'_>, rep: u16, at: u64, starts: &mut Out) -> Result<(),
 /// Writes the slots, and the place of each that begins a row.
 fn gather(
     form: &Form<'_>,
-    slots: &SlotBuf,
-    from: u64,
-    to: u64,
+    slots: &SlotPart<'_>,
     content: &mut Out,
     starts: &mut Out,
 ) -> Result<(), AllocError>
     requires form { IsForm form.now }
-    requires front { from ≤ to }
-    requires end { to ≤ length slots.now }
-    requires slots { All (CanStand (plain_form form.now)) (take (to - from) (drop from slots.now)) }
+    requires slots { All (CanStand (plain_form form.now)) slots.now }
     requires empty { (content.old ≡ []) × (starts.old ≡ []) }
-    ensures { OnOk result (Gathered (plain_form form.now) (take (to - from) (drop from slots.now)) content.new starts.new) }
+    ensures { OnOk result (Gathered (plain_form form.now) slots.now content.new starts.new) }
 {
-    for i in from..to {
+    for i in 0..slots.len() {
         let slot = slots.slot(i);
         put_start(form, slot.rep, content.len(), starts)?;
         put_slot(form, slot, content)?;
@@ -113,7 +96,7 @@ fn put_slot(form: &Form<'_>, slot: Slot<'_>, out: &mut Out) -> Result<(), AllocE
     requires slot { CanStand (plain_form form.now) (plain_slot slot) }
     ensures { OnOk result (Appends (plain_form form.now) (plain_slot slot.entry) out.old out.new) }
 {
-    let def = number(form, slot.state);
+    let def = known_number(form.codes, slot.state);
     put_word(
         form.word,
         u64::from(slot.rep) * (u64::from(form.mask) + 1) + u64::from(def),
@@ -123,18 +106,6 @@ fn put_slot(form: &Form<'_>, slot: Slot<'_>, out: &mut Out) -> Result<(), AllocE
         return Ok(());
     }
     put_value(form.value, slot.value, out)
-}
-
-/// The number of a state that has one.
-fn number(form: &Form<'_>, state: State) -> u16
-    requires form { IsForm form.now }
-    requires numbered { HasNumber (plain_form form.now).states state }
-    ensures { slice_get (plain_form form.now).states result ≡ Some state }
-{
-    match number_of(form.codes, state) {
-        Some(number) => number,
-        None => 0,
-    }
 }
 
 /// Appends a number in so many bytes, the lowest first.

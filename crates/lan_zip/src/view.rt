@@ -179,7 +179,7 @@ fn list_count(form: &Form<'_>, bytes: &[u8], rows: u64) -> Result<u64, ZipFault>
             Step::Cut => return Err(ZipFault::Cut(count)),
             Step::Level => return Err(ZipFault::Level(count)),
             Step::Slot(slot, next) => {
-                starts += start_of(form, slot);
+                starts += slot.row_start(form.lists);
                 count += 1;
                 rest = next;
             }
@@ -189,14 +189,6 @@ fn list_count(form: &Form<'_>, bytes: &[u8], rows: u64) -> Result<u64, ZipFault>
         return Err(ZipFault::Rows);
     }
     Ok(count)
-}
-
-/// How many rows begin with the slot.
-fn start_of(form: &Form<'_>, slot: Slot<'_>) -> u64
-    ensures value { result ≡ cond (slot.entry.rep == form.now.lists) 1 0 }
-    ensures few { result ≤ 1 }
-{
-    if slot.rep == form.lists { 1 } else { 0 }
 }
 
 /// Whether the slot at the front of the bytes, where there is one, begins a row.

@@ -1,7 +1,7 @@
-use Rattle.std.proofs.Common.{◌-◌, take, drop}
+use Rattle.std.proofs.Common.{take}
 use Rattle.lan_zip.specs.Form.{plain_form}
 use Rattle.lan_levels.specs.ZipWritten.{Gathered}
 use Rattle.lan_zip.proofs.page.gather.Given as goal
 
 abbrev pub invariant-loop-i : goal.invariant-loop-i
-invariant-loop-i l = Gathered (plain_form l.form) (take (l.i - l.from) (drop l.from l.slots)) l.content l.starts
+invariant-loop-i l = Gathered (plain_form l.form) (take l.i l.slots) l.content l.starts

@@ -16,18 +16,18 @@ worth bits mask rep from from2 from3 def m a b d =
 pub put_word-requires-clause-fits : goal.put_word-requires-clause-fits
 put_word-requires-clause-fits c =
     let f = c.args.form.now in
-    let same = worth f.bits f.mask c.args.slot.rep c.from.result c.from-2.result c.from-3.result c.number-def.result c.requires.form.mask c.from.ensures c.from-2.ensures c.from-3.ensures in
-    let below = number_below (plain_form f).states c.number-def.result (2 ^ f.bits) c.args.slot.state c.number-def.ensures c.requires.form.below in
-    subst (λ (n : ℕ). n < 2 ^ (8 * f.word)) (sym same) (c.requires.form.room c.args.slot.rep c.number-def.result c.requires.slot.rep below)
+    let same = worth f.bits f.mask c.args.slot.rep c.from.result c.from-2.result c.from-3.result c.known_number-def.result c.requires.form.mask c.from.ensures c.from-2.ensures c.from-3.ensures in
+    let below = number_below (plain_form f).states c.known_number-def.result (2 ^ f.bits) c.args.slot.state c.known_number-def.ensures c.requires.form.below in
+    subst (λ (n : ℕ). n < 2 ^ (8 * f.word)) (sym same) (c.requires.form.room c.args.slot.rep c.known_number-def.result c.requires.slot.rep below)
 
 pub returns : goal.returns
 returns c =
     let f = plain_form c.args.form.now in
     let s = plain_slot c.args.slot in
     let n = c.from.result * (c.from-2.result + 1) + c.from-3.result in
-    let same = worth f.bits c.args.form.now.mask s.rep c.from.result c.from-2.result c.from-3.result c.number-def.result c.requires.form.mask c.from.ensures c.from-2.ensures c.from-3.ensures in
+    let same = worth f.bits c.args.form.now.mask s.rep c.from.result c.from-2.result c.from-3.result c.known_number-def.result c.requires.form.mask c.from.ensures c.from-2.ensures c.from-3.ensures in
     let bare = bare_is f.layers s.state false c.if-is_bare.ensures in
     on_ok_weaker c.put_value.result
     (λ (e : c.put_value.new.out ≡ c.put_word.new.out ++ value_bytes f.value s.value).
-    slot_appended f s c.number-def.result n false c.args.out.now c.put_word.new.out c.put_value.new.out c.number-def.ensures same bare c.in_ok-put_word.ensures e)
+    slot_appended f s c.known_number-def.result n false c.args.out.now c.put_word.new.out c.put_value.new.out c.known_number-def.ensures same bare c.in_ok-put_word.ensures e)
     c.put_value.ensures

@@ -34,10 +34,10 @@ loop-rest-preserved c =
     let before = c.loop-rest.invariant.starts_are in
     let few = c.loop-rest.invariant.few in
     let room = c.loop-rest.invariant.room in
-    let one = c.start_of-starts.ensures.few in
+    let one = c.row_start-starts.ensures.few in
     record {
       walked = record { slots = w.slots ++ s ∷ []; is = put_last f c.loop-rest.count c.args.bytes.now (record { slots = w.slots; rest = c.loop-rest.rest.now }) s c.in-Slot.next.now w.is (sym c.in-Slot.ensures) };
-      starts_are = starts_last f.lists w.slots s ∙ ap₂ (λ (a b : ℕ). a + b) before (sym c.start_of-starts.ensures.value);
+      starts_are = starts_last f.lists w.slots s ∙ ap₂ (λ (a b : ℕ). a + b) before (sym c.row_start-starts.ensures.value);
       few = omega arith;
       room = omega arith;
     }

@@ -28,5 +28,5 @@ returns-clause-is c =
       word = c.word_size.ensures.few;
       some = λ lt. let more = some lt in c.word_size.ensures.some (omega arith);
       below = omega (arith, c.digits-bits.ensures.room, c.greatest.ensures.count);
-      room = λ rep def le lt. let wide = c.word_size.ensures.room (omega arith) in word_room c.digits.result c.digits-bits.result c.word_size.result rep def c.lists-lists.result (omega arith) c.digits.ensures.room le lt;
+      room = λ rep def le lt. let wide = c.word_size.ensures.room (omega arith) in word_room c.digits.result c.digits-bits.result c.word_size.result rep def c.lists_in-lists.result (omega arith) c.digits.ensures.room le lt;
     }

@@ -1,9 +1,13 @@
--- Codes that fit their layers.
-use Rattle.std.proofs.Common.{◌≡◌, ℕ, ◌⊎◌, inl, inr, true, false, List, [], ◌∷◌, length, map, All, refl, arith}
+-- Codes that fit their layers, and how many numbers they take.
+use Rattle.std.proofs.Common.{◌≡◌, ℕ, ◌+◌, ◌*◌, ◌≤◌, ◌⊎◌, inl, inr, Bool, true, false, cond, List, [], ◌∷◌, length, map, All, refl, arith, length-append}
 use Rattle.std.proofs.lemmas.List.Elements.{All-nil, All-cons}
 use Rattle.lan_model.specs.declared.tree.Layer.{Layer}
 use Rattle.lan_model.specs.declared.tree.Layer.TheVariants as layer
-use Rattle.lan_levels.specs.Codes.{layer_code, FitsCode, FitCodes, IsCode}
+use lib.Dec.{ltb}
+use Rattle.lan_levels.specs.declared.slot.State.{State}
+use Rattle.lan_levels.specs.declared.slot.State.TheVariants as state
+use Rattle.lan_levels.specs.SlotsOf.{lists_in}
+use Rattle.lan_levels.specs.Codes.{layer_code, FitsCode, FitCodes, IsCode, code_states, states_from}
 
 written_one : (l : Layer) → IsCode (layer_code l)
 written_one (layer.Item true) = (omega arith, omega arith)
@@ -55,3 +59,22 @@ fitting_count [] [] h = refl
 fitting_count [] (l ∷ ls) h = absurd h
 fitting_count (c ∷ cs) [] h = absurd h
 fitting_count (c ∷ cs) (l ∷ ls) h = omega (arith, fitting_count cs ls h.1)
+
+pub few_lists : (layers : List Layer) → lists_in layers ≤ length layers
+few_lists [] = omega arith
+few_lists (layer.Item n ∷ ls) = omega (arith, few_lists ls)
+few_lists (layer.Struct n m ∷ ls) = omega (arith, few_lists ls)
+few_lists (layer.List n ∷ ls) = omega (arith, few_lists ls)
+
+two_at_most : (a b c : Bool) (x y : State) → length (cond a [] (cond b (x ∷ []) (cond c (y ∷ []) (x ∷ y ∷ [])))) ≤ 2
+two_at_most true b c x y = omega arith
+two_at_most false true c x y = omega arith
+two_at_most false false true x y = omega arith
+two_at_most false false false x y = omega arith
+
+pub few_states : (codes : List ℕ) (k : ℕ) → length (states_from codes k) ≤ 2 * length codes
+few_states [] k = omega arith
+few_states (c ∷ cs) k =
+    let here = two_at_most (ltb c 3) (ltb c 5) (ltb c 6) (state.Null k) (state.Empty k) in
+    let later = few_states cs (k + 1) in
+    omega (arith, length-append (code_states c k) (states_from cs (k + 1)))

@@ -32,3 +32,4 @@ pub mod ZipWalks
 pub mod ZipFirst
 pub mod ZipSpelling
 pub mod Ranges
+pub mod Starts

@@ -9,6 +9,7 @@ pub mod Newest
 pub mod Opens
 pub mod Reasons
 pub mod Rows
+pub mod Scanned
 pub mod Snapshots
 pub mod Stage
 pub mod Standing

@@ -12,6 +12,7 @@ pub mod Looks
 pub mod Opened
 pub mod Pages
 pub mod PartLemmas
+mod KeptPicks
 pub mod Picked
 pub mod PlainIsFile
 pub mod Plainly

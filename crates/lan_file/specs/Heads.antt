@@ -5,6 +5,7 @@ use Rattle.lan_model.specs.Leaves.{PlainLeaf, plain_leaf}
 use Rattle.lan_meta.specs.declared.page.PageMeta.{PageMeta}
 use Rattle.lan_meta.specs.declared.page.ColumnMeta.{ColumnMeta}
 use Rattle.lan_meta.specs.Columns.{ColumnOf}
+use Rattle.lan_meta.specs.PageKeeps.{KeepsRules}
 use Rattle.lan_store.specs.Budget.{Budget, range, plus}
 use Rattle.lan_file.specs.declared.head.ColumnPick.{ColumnPick}
 use Rattle.lan_file.specs.declared.head.FileHead.{FileHead}
@@ -87,3 +88,15 @@ tables_budget bytes = record { ranges = 2; bytes = 40 + (length bytes - 40 - (fo
 -- at most what a head costs: these and the descriptor
 abbrev pub head_budget : List ℕ → Budget
 head_budget bytes = plus (tables_budget bytes) (range (descriptor_of bytes).size)
+
+-- ---- also where nothing is told of the object
+
+-- the pages keep to the rules for the leaf, and have so many rows in all
+pub record KeepsPick (rows : ℕ) (pick : Pick) (pages : List PageMeta) : Type 0 where
+  pub rules : All (KeepsRules pick.leaf) pages
+  pub rows_are : rows_in pages ≡ rows
+
+-- those of each column that was asked do
+abbrev pub KeepPicks : ℕ → List Pick → List (List PageMeta) → Type 0
+KeepPicks rows [] columns = columns ≡ []
+KeepPicks rows (pick ∷ picks) columns = (first : List PageMeta) × (later : List (List PageMeta)) × (columns ≡ first ∷ later) × KeepsPick rows pick first × KeepPicks rows picks later

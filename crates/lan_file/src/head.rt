@@ -5,9 +5,9 @@ ghost use Rattle.lan_bytes.specs.Placed.{Placed};
 ghost use Rattle.lan_store.specs.declared.name.Name.{Name as ObjectName};
 ghost use Rattle.lan_store.specs.Objects.{object};
 ghost use Rattle.lan_file.specs.declared.head.ColumnPick.{ColumnPick};
-ghost use Rattle.lan_file.specs.Heads.{pick_of, picks_of, placed, column_at, rows_in, IsHeadOf};
+ghost use Rattle.lan_file.specs.Heads.{pick_of, picks_of, placed, column_at, rows_in, IsHeadOf, KeepsPick, KeepPicks};
 ghost use Rattle.lan_file.specs.HeadReasons.{place_of, head_failure, ReadsHead};
-ghost use Rattle.lan_file.specs.HeadSteps.{meta_fault, JudgesPick, JudgesPicks};
+ghost use Rattle.lan_file.specs.HeadSteps.{meta_fault, pages_of, JudgesPick, JudgesPicks};
 ghost use Rattle.lan_file.specs.Parts.{descriptor_of, HasColumn};
 ghost use Rattle.lan_file.specs.Tables.{AreTables, IsTablesOf, HasParts, column_in};
 
@@ -102,6 +102,7 @@ fn read_pick(
     requires kept { HasColumn tables.now.footer (column_in tables.now pick.now.column) }
     requires layers { length pick.now.leaf.layers ≤ 16 }
     ensures answer { (bytes : List ℕ) → IsTablesOf bytes tables.now → JudgesPick bytes rows (pick_of pick.now) result }
+    ensures keeps { IfOk result (λ c. KeepsPick rows (pick_of pick.now) c.pages) }
     ensures calm { (name : ObjectName) → head_failure name result ≡ None }
 {
     let view = column_view(tables, pick.column);
@@ -127,6 +128,7 @@ fn read_picks(
     requires parts { HasParts tables.now picks.now }
     requires layers { All (λ (pick : ColumnPick). length pick.leaf.layers ≤ 16) picks.now }
     ensures answer { (bytes : List ℕ) → IsTablesOf bytes tables.now → JudgesPicks bytes rows (picks_of picks.now) result }
+    ensures keeps { IfOk result (λ columns. KeepPicks rows (picks_of picks.now) (pages_of columns)) }
     ensures calm { (name : ObjectName) → head_failure name result ≡ None }
 {
     let mut columns = ColumnMetas::with_capacity(alloc, picks.len())?;
@@ -148,6 +150,7 @@ fn read_messages(
     requires layers { All (λ (pick : ColumnPick). length pick.leaf.layers ≤ 16) picks.now }
     ensures answer { (bytes : List ℕ) → IsTablesOf bytes tables.now → descriptor.entry ≡ placed bytes (descriptor_of bytes)
         → ReadsHead (picks_of picks.now) (IsHeadOf (picks_of picks.now)) (Some bytes) result }
+    ensures keeps { IfOk result (λ head. KeepPicks head.rows (picks_of picks.now) (pages_of head.columns)) }
     ensures calm { (name : ObjectName) → head_failure name result ≡ None }
 {
     let rows = match read_length(descriptor) {
@@ -159,14 +162,15 @@ fn read_messages(
 }
 
 impl FileHead {
-    ghost use Rattle.std.specs.Prelude.{◌≡◌, ◌≤◌, ℕ, List, All, Some, length};
+    ghost use Rattle.std.specs.Prelude.{◌≡◌, ◌≤◌, ℕ, List, All, Some, length, IfOk};
     ghost use Rattle.std.specs.Option.{ForSome};
     ghost use Rattle.lan_store.specs.Budget.{Asks, ranges};
     ghost use Rattle.lan_store.specs.Looked.{Looked};
     ghost use Rattle.lan_store.specs.Objects.{object};
     ghost use Rattle.lan_file.specs.declared.head.ColumnPick.{ColumnPick};
-    ghost use Rattle.lan_file.specs.Heads.{picks_of, head_budget, IsHeadOf};
+    ghost use Rattle.lan_file.specs.Heads.{picks_of, head_budget, IsHeadOf, KeepPicks};
     ghost use Rattle.lan_file.specs.HeadReasons.{head_failure, ReadsHead};
+    ghost use Rattle.lan_file.specs.HeadSteps.{pages_of};
 
     /// Reads how many rows a data file of version 2.1 of the Lance format has, and the pages of the columns
     /// that are asked, each as one of its leaf, with the places of their buffers in the object.
@@ -184,6 +188,9 @@ impl FileHead {
 
         // The object is a file whose columns these are, or the reason stands in it at the place.
         ensures answer { ForSome (S.tells store.old).objects (λ all. ReadsHead (picks_of picks.now) (IsHeadOf (picks_of picks.now)) (object all name.now) result) }
+
+        // Also where nothing is told, the columns are as a reader of pages needs them.
+        ensures keeps { IfOk result (λ head. KeepPicks head.rows (picks_of picks.now) (pages_of head.columns)) }
 
         // The store's objects stay. At most three ranges were asked: the footer, all from column metadata
         // up to it, and the descriptor.

@@ -13,6 +13,7 @@ mod NewestReply
 mod OneCount
 mod OneLink
 mod OneRan
+mod OptionWords
 mod RunClauses
 mod Serving
 mod StepStands

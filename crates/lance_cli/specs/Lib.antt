@@ -9,6 +9,7 @@ pub mod Faults
 pub mod Inputs
 pub mod Laws
 pub mod Lines
+pub mod Options
 pub mod Plans
 pub mod Puts
 pub mod ReasonCodes

@@ -10,6 +10,7 @@ mod fault_text;
 mod folder;
 mod input;
 mod laws;
+mod options;
 mod reason_codes;
 mod reply;
 mod run;

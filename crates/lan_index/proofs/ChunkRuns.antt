@@ -7,7 +7,7 @@ use Rattle.lan_levels.specs.Runs.{is_reached, is_held, first_chunk, last_chunk, 
 use Rattle.lan_index.specs.declared.run.Run.{Run}
 use Rattle.lan_levels.specs.Stretch.{Stretch}
 use Rattle.lan_index.specs.Runs.{EndsAt, RowEnds, IsRowRun, extent}
-use Rattle.lan_index.proofs.PastLemmas.{IsGreatest, either, greatest_found}
+use Rattle.lan_index.proofs.PastLemmas.{IsGreatest, either, greatest_found, or_right}
 use Rattle.lan_index.proofs.ChunkLemmas.{rows_none, rows_more, rows_rise, some_slots, bare_all}
 
 reached_true : (index : List ℕ) (row n : ℕ) → is_reached index row n ≡ true → rows_before index n ≤ row
@@ -36,15 +36,11 @@ held_true : (index : List ℕ) (row n : ℕ) → is_held index row n ≡ true �
 unfolding is_held
 held_true index row n e = held_cases index row n (either_true (nat_le (rows_before index n) row) (nat_le (rows_before index n) (row + 1)) (nat_lt 0 (lead_at index n)) e)
 
-true_or : (a b : Bool) → b ≡ true → a || b ≡ true
-true_or true b e = refl
-true_or false b e = e
-
 true_held : (index : List ℕ) (row n : ℕ) → Held index row n → is_held index row n ≡ true
 unfolding is_held
 true_held index row n (inl le) = ap (λ (b : Bool). b || (nat_le (rows_before index n) (row + 1) && nat_lt 0 (lead_at index n))) (le-leb (rows_before index n) row le)
 true_held index row n (inr h) =
-    true_or (nat_le (rows_before index n) row) (nat_le (rows_before index n) (row + 1) && nat_lt 0 (lead_at index n))
+    or_right (nat_le (rows_before index n) row) (nat_le (rows_before index n) (row + 1) && nat_lt 0 (lead_at index n))
     (ap₂ (λ (a b : Bool). a && b) (le-leb (rows_before index n) (row + 1) h.0) (lt-ltb 0 (lead_at index n) h.1))
 
 later_case : (index : List ℕ) (a b n : ℕ) → a ≤ b → rows_before index n ≤ a + 1 → 0 < lead_at index n → (rows_before index n ≤ b) ⊎ (b < rows_before index n) → Held index b n

@@ -67,7 +67,7 @@ cover_one run row = let one : row + 1 - 1 ≡ row = omega arith in ap (λ (n : �
 or_left : (a b : Bool) → a ≡ true → a || b ≡ true
 or_left a b e = ap (λ (x : Bool). x || b) e
 
-or_right : (a b : Bool) → b ≡ true → a || b ≡ true
+pub or_right : (a b : Bool) → b ≡ true → a || b ≡ true
 or_right true b e = refl
 or_right false b e = e
 

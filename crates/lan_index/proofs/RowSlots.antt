@@ -7,6 +7,7 @@ use Rattle.lan_levels.specs.ZipSlots.{first_slot, Part, spelled, starts, FirstBe
 use Rattle.lan_levels.proofs.ZipWalks.{spelled_none, spelled_more, opened, count_slots}
 use Rattle.lan_levels.specs.ZipRows.{slots_before, slots_of_rows, slot_place, row_place}
 use Rattle.lan_levels.proofs.ZipSpelling.{parted, first_front}
+pub use Rattle.lan_levels.proofs.Starts.{starts_append}
 use Rattle.lan_index.proofs.Segments.{part, segment}
 
 -- no repetition number is above the list layers
@@ -61,10 +62,6 @@ first_case false s front e = absurd (cc)
 pub before_first : (lists : ℕ) (slots : List PlainSlot) → FirstBegins lists slots → length (slots_before lists 0 slots) ≡ 0
 before_first lists [] h = refl
 before_first lists (s ∷ slots) h = first_case (s.rep == lists) s (slots_before lists 0 slots) (eq-eqb s.rep lists h)
-
-pub starts_append : (lists : ℕ) (xs ys : List PlainSlot) → starts lists (xs ++ ys) ≡ starts lists xs + starts lists ys
-starts_append lists [] ys = omega arith
-starts_append lists (x ∷ xs) ys = omega (arith, starts_append lists xs ys)
 
 -- what is behind the slots before a row begins that row
 begins_case : (b : Bool) (lists : ℕ) (s : PlainSlot) (slots : List PlainSlot) → (s.rep == lists) ≡ b → FirstBegins lists (drop (length (slots_before lists 0 slots)) slots) → FirstBegins lists (drop (length (cond b [] (s ∷ slots_before lists 0 slots))) (s ∷ slots))

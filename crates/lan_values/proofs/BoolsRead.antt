@@ -33,7 +33,7 @@ byte_at (suc n) values (suc q) lt =
     let e : 8 + 8 * q ≡ 8 * suc q = omega arith in
     byte_at n (drop 8 values) q (omega arith) ∙ ap (λ (bs : List Bool). byte_of (take 8 bs)) (drop-drop (8 * q) 8 values ∙ ap (λ (k : ℕ). drop k values) e)
 
-bools_size : (n : ℕ) (values : List Bool) → length (bool_bytes n values) ≡ n
+pub bools_size : (n : ℕ) (values : List Bool) → length (bool_bytes n values) ≡ n
 unfolding bool_bytes
 bools_size zero values = refl
 bools_size (suc n) values = ap suc (bools_size n (drop 8 values))

@@ -9,6 +9,7 @@ use Rattle.lan_levels.specs.PlainSlots.{bytes}
 use Rattle.lan_levels.specs.Values.{variable, offset, value_at, IsVariable, ValuesOf}
 use Rattle.lan_levels.specs.BuiltValues.{four_bytes, ends_bytes, variable_bytes}
 use Rattle.lan_values.proofs.Each.{each_map}
+use Rattle.lan_values.proofs.Ends.{ends_step}
 
 four_length : (n : ℕ) → length (four_bytes n) ≡ 4
 unfolding four_bytes
@@ -17,10 +18,6 @@ four_length n = refl
 four_back : (n : ℕ) (rest : List ℕ) → n < 2 ^ 32 → number_at w32 (four_bytes n ++ rest) 0 ≡ n
 unfolding four_bytes
 four_back n rest lt = from_le_bytes-to_le_bytes_4 n lt
-
-ends_more : (at n : ℕ) (ns : List ℕ) → ends_bytes at (n ∷ ns) ≡ four_bytes (at + n) ++ ends_bytes (at + n) ns
-unfolding ends_bytes
-ends_more at n ns = refl
 
 ends_length : (at : ℕ) (ns : List ℕ) → length (ends_bytes at ns) ≡ 4 * length ns
 unfolding ends_bytes
@@ -35,7 +32,7 @@ next_offsets : (at : ℕ) (v : List ℕ) (vs : List (List ℕ)) (rest : List ℕ
     → ends_bytes at (map (λ (x : List ℕ). length x) (v ∷ vs)) ++ rest ≡ four_bytes (at + length v) ++ (ends_bytes (at + length v) (map (λ (x : List ℕ). length x) vs) ++ rest)
 next_offsets at v vs rest =
     let ns = map (λ (x : List ℕ). length x) vs in
-    ap (λ (bs : List ℕ). bs ++ rest) (ends_more at (length v) ns) ∙ append_assoc (four_bytes (at + length v)) (ends_bytes (at + length v) ns) rest
+    ap (λ (bs : List ℕ). bs ++ rest) (ends_step at (length v) ns) ∙ append_assoc (four_bytes (at + length v)) (ends_bytes (at + length v) ns) rest
 
 offsets_back : (k at : ℕ) (vs : List (List ℕ)) (rest : List ℕ) → k ≤ length vs → at + length (concat vs) < 2 ^ 32
     → number_at w32 (four_bytes at ++ (ends_bytes at (map (λ (x : List ℕ). length x) vs) ++ rest)) (4 * k) ≡ at + before k vs
@@ -73,7 +70,7 @@ cut_at (x ∷ vs) (suc k) v e =
     ap (λ (j : ℕ). drop j (x ++ concat vs)) b ∙ sym (drop-drop (before k vs) (length x) (x ++ concat vs)) ∙ ap (drop (before k vs)) (drop_at x (concat vs) (length x) refl) in
     ap₂ (λ (n : ℕ) (bs : List ℕ). take n bs) count later ∙ cut_at vs k v e
 
-head_length : (values : List (List ℕ)) → length (four_bytes (4 * (length values + 1)) ++ ends_bytes (4 * (length values + 1)) (map (λ (x : List ℕ). length x) values)) ≡ 4 * (length values + 1)
+pub head_length : (values : List (List ℕ)) → length (four_bytes (4 * (length values + 1)) ++ ends_bytes (4 * (length values + 1)) (map (λ (x : List ℕ). length x) values)) ≡ 4 * (length values + 1)
 head_length values =
     let first = 4 * (length values + 1) in
     let ns = map (λ (x : List ℕ). length x) values in

@@ -6,7 +6,7 @@ use Rattle.lan_levels.specs.BuiltValues.{four_bytes, ends_bytes, variable_bytes}
 use Rattle.lan_values.specs.Cut.{cut_by}
 use Rattle.lan_values.proofs.Cuts.{sum-cons, lengths_cut, concat_cut, count_cut}
 
-ends_step : (end n : ℕ) (ns : List ℕ) → ends_bytes end (n ∷ ns) ≡ four_bytes (end + n) ++ ends_bytes (end + n) ns
+pub ends_step : (end n : ℕ) (ns : List ℕ) → ends_bytes end (n ∷ ns) ≡ four_bytes (end + n) ++ ends_bytes (end + n) ns
 unfolding ends_bytes
 ends_step end n ns = refl
 

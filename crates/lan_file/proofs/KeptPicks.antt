@@ -1,9 +1,8 @@
 -- The columns that were asked keep to the rules, one after another.
-use Rattle.std.proofs.Common.{◌≡◌, refl, sym, ◌∙◌, ap, subst, ℕ, ◌+◌, ◌^◌, ◌<◌, ◌≤◌, List, [], ◌∷◌, ◌++◌, length, take, arith}
-use Rattle.std.specs.Prelude.{slice_index_or, MatchOption, Some, None, Option}
+use Rattle.std.proofs.Common.{◌≡◌, refl, sym, ◌∙◌, ap, subst, ℕ, ◌+◌, ◌<◌, ◌≤◌, List, [], ◌∷◌, ◌++◌, length, take, arith}
+use Rattle.std.specs.Prelude.{slice_index_or}
 use Rattle.std.proofs.lemmas.List.{map_more, take_all, map_push}
 use Rattle.lan_bytes.specs.Placed.{Placed}
-use Rattle.lan_model.specs.Leaves.{PlainLeaf}
 use Rattle.lan_meta.specs.Columns.{ColumnOf}
 use Rattle.lan_meta.specs.declared.page.ColumnMeta.{ColumnMeta}
 use Rattle.lan_meta.specs.declared.page.PageMeta.{PageMeta}

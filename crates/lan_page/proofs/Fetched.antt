@@ -1,10 +1,11 @@
 -- What is fetched of a page.
-use Rattle.std.proofs.Common.{◌≡◌, ℕ, ◌+◌, ◌-◌, ◌*◌, ◌<◌, ◌≤◌, List, [], ◌∷◌, ◌++◌, Option, Some, None, Result, Ok, Err, IfOk, IfSome, IfNone, IsSomeAnd, length, take, drop, slice_get, refl, ap, ap₂, sym, subst, ◌∙◌, inl, inr, arith, append-nil}
+use Rattle.std.proofs.Common.{◌≡◌, ℕ, ◌+◌, ◌-◌, ◌*◌, ◌<◌, ◌≤◌, List, [], ◌∷◌, ◌++◌, Option, Some, None, Result, Ok, Err, IfOk, IfSome, IfNone, IsSomeAnd, length, take, drop, slice_get, map, refl, ap, ap₂, sym, subst, ◌∙◌, inl, inr, arith, append-nil, length-take}
 use Rattle.std.proofs.Math.Nat.{mul-le-mul_left}
 use Rattle.std.specs.Int.{w64}
 use Rattle.std.specs.List.{concat}
 use Rattle.lan_bytes.specs.Numbers.{number_at}
 use Rattle.lan_model.specs.declared.range.Range.{Range}
+use Rattle.lan_model.specs.declared.range.Span.{Span}
 use Rattle.lan_model.specs.Leaves.{PlainLeaf}
 use Rattle.lan_levels.specs.Offsets.{place_at}
 use Rattle.lan_levels.specs.Runs.{placed}
@@ -21,8 +22,8 @@ use Rattle.lan_page.specs.declared.cut.RowCut.{RowCut}
 use Rattle.lan_page.specs.declared.fault.PageFault.{PageFault}
 use Rattle.lan_page.specs.declared.fault.PageFault.TheVariants.{Outside, Store, Memory}
 use Rattle.lan_page.specs.declared.fault.PageReason.TheVariants.{Missing, Short, Index, Content, Zip as ZipReason, Start, Rows}
-use Rattle.lan_page.specs.Asking.{AnswersOf, IfHeld, part_held, IsNear, IsPartOf, index_ranges, IsIndexOf, IsFullZip, PassesEnd, HasSome}
-use Rattle.lan_page.specs.Cuts.{one_span, spans_for, IsCut}
+use Rattle.lan_page.specs.Asking.{AnswersOf, IfHeld, part_held, IsNear, IsPartOf, index_ranges, IsIndexOf, IsFullZip, PassesEnd, HasSome, first_len}
+use Rattle.lan_page.specs.Cuts.{one_span, span_stretch, spans_for, AreBytesAt, IsCut}
 use Rattle.lan_page.specs.Held.{bytes_held, held_buffers, held_run, first_of}
 use Rattle.lan_page.specs.Places.{range_stretch}
 use Rattle.lan_page.proofs.Parts.{part-part, number_part}
@@ -71,6 +72,20 @@ content_bytes page held content part r more old new buffers within is none read 
     ∙ ap (λ (x : Range). take x.len (drop x.at bytes)) is
     ∙ sym (part-part bytes content.at content.len part.at part.len within)
     ∙ ap₂ (λ (n : ℕ) (all : List ℕ). take n (drop part.at all)) (sym (stretch_size part)) (sym first)
+
+-- one part that was fetched is the cut's
+pub one_part : (page : PageMeta) (held : Option (List ℕ)) (part : Range) (cut : RowCut) (bytes : List ℕ) → cut ≡ record { skip = 0; spans = record { at = part.at; len = part.len; first = 0; slots = 0 } ∷ [] } → bytes ≡ bytes_in (first_of (held_buffers page held)) (range_stretch part) → AreBytesAt page held cut bytes
+one_part page held part cut bytes made read =
+    let all = first_of (held_buffers page held) in
+    read ∙ sym (append-nil (bytes_in all (range_stretch part))) ∙ ap (λ (c : RowCut). concat (map (λ (s : Span). bytes_in all (span_stretch s)) c.spans)) (sym made)
+
+content_within : (bytes : List ℕ) (bs : List Range) → length (first_of (buffers_in bytes bs)) ≤ first_len bs
+content_within bytes [] = omega arith
+content_within bytes (b ∷ bs) = let n = length-take b.len (drop b.at bytes) in omega arith
+
+-- the content is no longer than the page says
+pub content_fits : (page : PageMeta) (held : Option (List ℕ)) → length (first_of (held_buffers page held)) ≤ first_len page.buffers
+content_fits page held = content_within (bytes_held held) page.buffers
 
 -- a row's two places are those of the whole
 pub near_is : (held : Option (List ℕ)) (rows content row : ℕ) (index : Range) (two : List ℕ) (from past : ℕ) (found : Option Range) → index.len ≡ 8 * (rows + 1) → row < rows → two ≡ take 16 (drop (index.at + 8 * row) (bytes_held held))

@@ -1,5 +1,5 @@
 -- The index that is handed over is that of the page.
-use Rattle.std.proofs.Common.{◌≡◌, ℕ, ◌≤◌, List, [], ◌∷◌, Option, Some, Err, length, refl, ap, sym, subst, ◌∙◌, arith, append-nil}
+use Rattle.std.proofs.Common.{◌≡◌, ℕ, ◌≤◌, List, [], ◌∷◌, Option, Some, Err, inl, inr, length, refl, ap, sym, subst, ◌∙◌, arith, append-nil}
 use Rattle.std.specs.List.{concat}
 use Rattle.lan_model.specs.declared.range.Range.{Range}
 use Rattle.lan_model.specs.Leaves.{PlainLeaf}
@@ -23,11 +23,11 @@ use Rattle.lan_page.specs.declared.fault.PageFault.{PageFault}
 use Rattle.lan_page.specs.declared.fault.PageFault.TheVariants.{Outside, Store, Memory}
 use Rattle.lan_page.specs.declared.fault.PageReason.TheVariants.{Missing, Short, Index, Content, Zip as ZipReason, Start, Rows}
 use Rattle.lan_page.specs.declared.fetching.PiecePart.{PiecePart}
-use Rattle.lan_page.specs.Asking.{AnswersOf, FailsIndex, IsIndexOf, IsFullZip, FailsGiven, index_ranges, given_buffers, given_runs, given_run, first_len, content_budget, IsPiecePart, IsPieceOf, piece_budget, part_held}
+use Rattle.lan_page.specs.Asking.{AnswersOf, FailsIndex, IsIndexOf, IsFullZip, FailsGiven, index_ranges, given_buffers, given_runs, given_run, first_len, content_budget, IsPiecePart, IsPieceOf, piece_budget, part_held, ReasonStands, RefusesPiece}
 use Rattle.lan_page.specs.Cuts.{one_span}
 use Rattle.lan_page.specs.Held.{bytes_held, held_buffers, held_run, HoldsPage, first_of}
 use Rattle.lan_page.specs.Places.{range_stretch}
-use Rattle.lan_page.proofs.Fetched.{part_size, zip_cut}
+use Rattle.lan_page.proofs.Fetched.{part_size, zip_cut, content_fits}
 use Rattle.lan_page.proofs.PageLemmas.{IsZipPage, runs_are, index_is}
 use Rattle.lan_page.proofs.SlotLemmas.{some_buffer}
 
@@ -114,3 +114,21 @@ fails_held {A} Holds page held index fault few i h =
     let o = only_index page.rows index page.buffers fault h in
     let there = subst (FailsGiven page.rows page.buffers index) o.2 h in
     subst (λ (e : PageFault). AnswersOf page held Holds (Err e)) (sym o.2) (fails_by page.rows (bytes_held held) index page.buffers o.0 o.1 few i there)
+
+pub refuses_given : (page : PageMeta) (held : Option (List ℕ)) (index : List ℕ) (fault : PageFault) → FailsGiven page.rows page.buffers index fault → RefusesPiece page held index fault
+refuses_given page held index fault h =
+    let o = only_index page.rows index page.buffers fault h in
+    subst (RefusesPiece page held index) (sym o.2) (inr (subst (FailsGiven page.rows page.buffers index) o.2 h))
+
+pub refuses_held : {A : Type 0} (Holds : A → Type 0) (page : PageMeta) (held : Option (List ℕ)) (index : List ℕ) (fault : PageFault) → AnswersOf page held Holds (Err fault) → RefusesPiece page held index fault
+refuses_held {A} Holds page held index (Outside reason place) h = inl h
+refuses_held {A} Holds page held index Store h = tt
+refuses_held {A} Holds page held index Memory h = tt
+
+-- the bytes of the piece, also where the page isn't held
+pub piece_bytes : (leaf : PlainLeaf) (page : PageMeta) (held : Option (List ℕ)) (index : List ℕ) (row : ℕ) (p : PiecePart) (bytes : List ℕ) → IsFullZip page.layout → length page.buffers ≤ 2 → IsIndexOf page held index
+    → ((all : List ℕ) → length all ≤ first_len page.buffers → bytes_in all (range_stretch p.part) ≡ bytes_in all (cover (given_run leaf page index) row p.past)) → bytes ≡ bytes_in (first_of (held_buffers page held)) (range_stretch p.part)
+    → bytes ≡ bytes_in (first_of (held_buffers page held)) (cover (held_run leaf page held) row p.past)
+piece_bytes leaf page held index row p bytes zip few i same read =
+    let all = first_of (held_buffers page held) in
+    read ∙ same all (content_fits page held) ∙ ap (λ (r : Runs). bytes_in all (cover (run r) row p.past)) (given_are leaf page held index zip few i)

@@ -1,11 +1,16 @@
+pub mod ColumnsRefute
 pub mod ConstantPieces
+pub mod CursorLemmas
+pub mod DueLemmas
 pub mod Fetched
 pub mod GivenIndex
 pub mod LawTerms
 pub mod PageCuts
 pub mod PageLemmas
+pub mod PageRows
 pub mod Parts
 pub mod PlaceLemmas
 pub mod Refutes
+pub mod RowPlaces
 pub mod SlotLemmas
 pub mod ZipPages

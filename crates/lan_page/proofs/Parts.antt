@@ -5,8 +5,8 @@ use Rattle.std.specs.Int.{w64, byte_worth, sum_through}
 use Rattle.lan_bytes.specs.Numbers.{number_at}
 
 -- a part of a part is a part of the whole
-pub part-part : (bytes : List ℕ) (at len from size : ℕ) → from + size ≤ len → take size (drop from (take len (drop at bytes))) ≡ take size (drop (at + from) bytes)
-part-part bytes at len from size within =
+pub part-part : {X : Type 0} (bytes : List X) (at len from size : ℕ) → from + size ≤ len → take size (drop from (take len (drop at bytes))) ≡ take size (drop (at + from) bytes)
+part-part {X} bytes at len from size within =
     let rest : from + (len - from) ≡ len = omega arith in
     let cut : drop from (take len (drop at bytes)) ≡ take (len - from) (drop from (drop at bytes)) = ap (λ (n : ℕ). drop from (take n (drop at bytes))) (sym rest) ∙ drop-take from (len - from) (drop at bytes) in
     ap (take size) cut ∙ take-take size (len - from) (drop from (drop at bytes)) (omega arith) ∙ ap (take size) (drop-drop from at bytes)

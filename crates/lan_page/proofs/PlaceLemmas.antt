@@ -1,11 +1,13 @@
 -- The places of rows, and where a piece ends.
-use Rattle.std.proofs.Common.{◌≡◌, ℕ, zero, suc, ◌+◌, ◌-◌, ◌*◌, ◌^◌, ◌<◌, ◌≤◌, ◌⊎◌, inl, inr, true, false, max, ◌∷◌, replicate, refl, ap, sym, ◌∙◌, arith}
+use Rattle.std.proofs.Common.{◌≡◌, ℕ, zero, suc, ◌+◌, ◌-◌, ◌*◌, ◌^◌, ◌<◌, ◌≤◌, ◌⊎◌, inl, inr, true, false, min, max, List, [], ◌∷◌, length, take, drop, replicate, refl, ap, ap₂, sym, ◌∙◌, arith, length-drop}
+use Rattle.std.proofs.lemmas.Bool.{cases_lt}
+use Rattle.std.proofs.lemmas.List.{take_all, drop_all}
 use Rattle.std.proofs.Math.Nat.{mul-le-mul_left}
 use Rattle.lan_model.specs.declared.range.Range.{Range}
 use Rattle.lan_levels.specs.Past.{most_bytes, is_short, past, furthest}
 use Rattle.lan_levels.specs.PlainSlots.{PlainSlot}
 use Rattle.lan_levels.specs.Runs.{run, IsIndex}
-use Rattle.lan_levels.specs.Stretch.{size, cover}
+use Rattle.lan_levels.specs.Stretch.{Stretch, size, bytes_in, cover}
 use Rattle.lan_index.proofs.PastLemmas.{past_found, within_longest, over_longest, cover_is}
 use Rattle.lan_index.proofs.RunLemmas.{rising, inside}
 use Rattle.lan_page.specs.declared.places.Known.{Known}
@@ -37,6 +39,47 @@ pub part_is : (k : Known) (rows content row past : ℕ) (r : Range) → IsIndex 
     → range_stretch r ≡ cover (run (known_runs k)) row past
 part_is k rows content row past r h less le at end =
     cover_is (run (known_runs k)) row past (range_stretch r) (at ∙ place_front k rows content row h (omega arith)) (end ∙ place_behind k rows content past h (omega arith) le)
+
+-- bytes that end before a place are the same up to it
+cut_at : (all : List ℕ) (a b end : ℕ) → length all ≤ end → a ≤ b → take (min b end - min a end) (drop (min a end) all) ≡ take (b - a) (drop a all)
+cut_at all a b end le order = elim (cases_lt end b) [
+  | inr within ↦
+      let front : min a end ≡ a = omega arith in
+      let back : min b end ≡ b = omega arith in
+      ap₂ (λ (x y : ℕ). take (y - x) (drop x all)) front back
+  | inl over ↦ elim (cases_lt end a) [
+    | inl behind ↦
+        let none : drop a all ≡ [] = drop_all a all (omega arith) in
+        let here : drop (min a end) all ≡ [] = drop_all (min a end) all (omega arith) in
+        ap (take (min b end - min a end)) here ∙ no_more (min b end - min a end) ∙ sym (no_more (b - a)) ∙ ap (take (b - a)) (sym none)
+    | inr front ↦
+        let same : min a end ≡ a = omega arith in
+        let rest = length-drop a all in
+        let p = take_all (min b end - a) (drop a all) (omega arith) in
+        let q = take_all (b - a) (drop a all) (omega arith) in
+        ap (λ (x : ℕ). take (min b end - x) (drop x all)) same ∙ p ∙ sym q
+  ]
+]
+  where
+    no_more : (n : ℕ) → ◌≡◌ {A = List ℕ} (take n []) []
+    no_more zero = refl
+    no_more (suc n) = refl
+
+known_same : (k : Known) (content row past : ℕ) (all : List ℕ) → row < past → length all ≤ content
+    → bytes_in all (record { from = known_place k content row; past = known_place k content past }) ≡ bytes_in all (cover (run (known_runs k)) row past)
+known_same (Even width) content row past all less le =
+    let last : past ≡ past - 1 + 1 = omega arith in
+    let order : width * row ≤ width * past = mul-le-mul_left width (let l : row ≤ past = omega arith in l) in
+    cut_at all (width * row) (width * past) content le order
+    ∙ ap (bytes_in all) (cover_is (run (known_runs (Even width))) row past (record { from = width * row; past = width * past }) refl (ap (λ (n : ℕ). width * n) last))
+known_same (Listed places) content row past all less le =
+    let last : past ≡ past - 1 + 1 = omega arith in
+    ap (bytes_in all) (cover_is (run (known_runs (Listed places))) row past (record { from = known_place (Listed places) content row; past = known_place (Listed places) content past }) refl (ap (known_place (Listed places) content) last))
+
+-- of a content that may be short, too
+pub part_same : (k : Known) (content row past : ℕ) (r : Range) (all : List ℕ) → row < past → r.at ≡ known_place k content row → r.at + r.len ≡ known_place k content past → length all ≤ content
+    → bytes_in all (range_stretch r) ≡ bytes_in all (cover (run (known_runs k)) row past)
+part_same k content row past r all less at end le = ap₂ (λ (x y : ℕ). bytes_in all (record { from = x; past = y })) at end ∙ known_same k content row past all less le
 
 -- no place passes the content or falls
 pub record Climbs (k : Known) (content n : ℕ) : Type 0 where

@@ -30,7 +30,9 @@ use Rattle.lan_page.specs.Cuts.{IsCut}
 use Rattle.lan_page.specs.Giving.{GivesRows}
 use Rattle.lan_page.specs.Held.{bytes_held, held_buffers, HoldsPage}
 use Rattle.lan_page.specs.Walks.{RowsAre}
+use Rattle.lan_page.specs.PieceRows.{HasRows, GrewByRows}
 use Rattle.lan_page.proofs.PageLemmas.{rows_zip}
+use Rattle.lan_page.proofs.PageRows.{rows_have}
 
 -- ---- bytes are the slots of so many rows at most once
 
@@ -84,7 +86,7 @@ same_length f rows all xs ys (suc l) some a b p q =
 one_zip : (f : PlainForm) (rows : ℕ) (all : List ℕ) (xs ys : List PlainSlot) → (0 < f.lists → 0 < f.word) → IsZip f rows all xs → IsZip f rows all ys → xs ≡ ys
 one_zip f rows all xs ys some p q = same_part f all xs ys (same_length f rows all xs ys f.lists some p.rows_are q.rows_are p.are q.are) p.are q.are
 
-form_some : (leaf : PlainLeaf) (codes : List ℕ) (values : ValueKind) → 0 < (page_form leaf codes values).lists → 0 < (page_form leaf codes values).word
+pub form_some : (leaf : PlainLeaf) (codes : List ℕ) (values : ValueKind) → 0 < (page_form leaf codes values).lists → 0 < (page_form leaf codes values).word
 form_some leaf codes values lt =
     let some = digits_some (lists_in leaf.layers) lt in
     word_some (digits (lists_in leaf.layers) + digits (length (states_of codes) - 1)) (omega arith)
@@ -165,3 +167,7 @@ one_more all given left next s e f = append_assoc given (s ∷ []) next ∙ ap (
 
 pub fewer : (left next : List PlainSlot) (s : PlainSlot) → left ≡ s ∷ next → length next < length left
 fewer left next s e = let n = ap (length {A = PlainSlot}) e in omega arith
+
+-- what a walk gives is the slots of so many rows
+pub grew_by : (leaf : PlainLeaf) (page : PageMeta) (rows n : ℕ) (bytes : List ℕ) (old new given : List PlainSlot) → KeepsRules leaf page → rows ≡ n → RowsAre leaf page.layout rows bytes given → new ≡ old ++ given → GrewByRows (lists_in leaf.layers) n old new
+grew_by leaf page rows n bytes old new given k many are all = record { slots = given; grew = all; are = subst (λ (m : ℕ). HasRows (lists_in leaf.layers) m given) many (rows_have leaf page.layout rows bytes given k.layers are) }

@@ -186,3 +186,9 @@ GivenFails rows content more index fault = ⊥
 abbrev pub FailsGiven : ℕ → List Range → List ℕ → PageFault → Type 0
 FailsGiven rows [] index fault = ⊥
 FailsGiven rows (content ∷ more) index fault = GivenFails rows content.len more index fault
+
+-- why a piece isn't had by an index that is handed over: by what the object has, or by that index
+abbrev pub RefusesPiece : PageMeta → Option (List ℕ) → List ℕ → PageFault → Type 0
+RefusesPiece page held index (Outside reason place) = ReasonStands page held reason place ⊎ FailsGiven page.rows page.buffers index (Outside reason place)
+RefusesPiece page held index Store = ⊤
+RefusesPiece page held index Memory = ⊤

@@ -1,5 +1,6 @@
 -- The parts of a page's content that hold some of its rows.
-use Rattle.std.specs.Prelude.{◌≡◌, ℕ, List, [], ◌∷◌, Option}
+use Rattle.std.specs.Prelude.{◌≡◌, ℕ, ◌+◌, List, [], ◌∷◌, map, Option}
+use Rattle.std.specs.List.{concat}
 use Rattle.lan_model.specs.declared.range.Span.{Span}
 use Rattle.lan_model.specs.Leaves.{PlainLeaf}
 use Rattle.lan_levels.specs.Stretch.{Stretch, size, bytes_in, cover}
@@ -22,3 +23,10 @@ pub record IsCut (leaf : PlainLeaf) (page : PageMeta) (held : Option (List ℕ))
   pub spans : cut.spans ≡ spans_for page.layout (cover (held_run leaf page held) row past)
   pub bytes_are : bytes ≡ bytes_in (first_of (held_buffers page held)) (cover (held_run leaf page held) row past)
   pub skip : cut.skip ≡ 0
+
+abbrev pub span_stretch : Span → Stretch
+span_stretch s = record { from = s.at; past = s.at + s.len }
+
+-- the bytes are those of the content at the parts, one part after another
+abbrev pub AreBytesAt : PageMeta → Option (List ℕ) → RowCut → List ℕ → Type 0
+AreBytesAt page held cut bytes = bytes ≡ concat (map (λ (s : Span). bytes_in (first_of (held_buffers page held)) (span_stretch s)) cut.spans)

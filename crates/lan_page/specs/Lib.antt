@@ -5,4 +5,7 @@ pub mod Asking
 pub mod Walks
 pub mod Giving
 pub mod Columns
+pub mod PieceRows
+pub mod ColumnCursors
+pub mod ColumnBudgets
 pub mod Laws

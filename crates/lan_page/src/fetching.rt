@@ -1,4 +1,4 @@
-ghost use Rattle.std.specs.Prelude.{◌≡◌, [], ◌∷◌, ◌+◌, ◌-◌, ◌*◌, ◌/◌, ◌^◌, ◌<◌, ◌≤◌, max, length, option_to_list, IfOk, IfErr, IfSome, IfNone, IsOkAnd};
+ghost use Rattle.std.specs.Prelude.{◌≡◌, ℕ, List as Sequence, [], ◌∷◌, ◌+◌, ◌-◌, ◌*◌, ◌/◌, ◌^◌, ◌<◌, ◌≤◌, max, length, option_to_list, IfOk, IfErr, IfSome, IfNone, IsOkAnd};
 ghost use Rattle.std.specs.Option.{ForSome};
 ghost use Rattle.lan_model.specs.Leaves.{plain_leaf};
 ghost use Rattle.lan_store.specs.Budget.{range, plus, Asks};
@@ -9,15 +9,15 @@ ghost use Rattle.lan_levels.specs.Offsets.{AreOffsets};
 ghost use Rattle.lan_levels.specs.Past.{past, longest};
 ghost use Rattle.lan_levels.specs.Runs.{even, placed, run, IsIndex};
 ghost use Rattle.lan_levels.specs.SlotsOf.{lists_in};
-ghost use Rattle.lan_levels.specs.Stretch.{bytes_in};
+ghost use Rattle.lan_levels.specs.Stretch.{bytes_in, cover};
 ghost use Rattle.lan_levels.specs.ZipForm.{digits, word_size, value_form};
 ghost use Rattle.lan_levels.specs.ZipRows.{value_width, slot_width, zip_runs};
 ghost use Rattle.lan_model.specs.Plain.{plain_type};
 ghost use Rattle.lan_meta.specs.PageKeeps.{KeepsRules};
 ghost use Rattle.lan_meta.specs.PageOf.{page_form};
 ghost use Rattle.lan_meta.specs.PageRules.{EndBefore};
-ghost use Rattle.lan_page.specs.Asking.{page_failure, AnswersOf, IfHeld, index_budget, near_most, near_budget, row_most, row_budget, content_budget, first_len, given_run, given_runs, IsPiecePart, FailsGiven, IsFullZip, IsIndexOf, IsPieceOf, piece_most, piece_budget, part_held, IsNear, given_more, GivenFails};
-ghost use Rattle.lan_page.specs.Cuts.{one_span, IsCut};
+ghost use Rattle.lan_page.specs.Asking.{page_failure, AnswersOf, IfHeld, index_budget, near_most, near_budget, row_most, row_budget, content_budget, first_len, given_run, given_runs, IsPiecePart, FailsGiven, IsFullZip, IsIndexOf, IsPieceOf, piece_most, piece_budget, part_held, IsNear, given_more, GivenFails, RefusesPiece};
+ghost use Rattle.lan_page.specs.Cuts.{one_span, AreBytesAt, IsCut};
 ghost use Rattle.lan_page.specs.Held.{first_of, held_buffers, held_run};
 ghost use Rattle.lan_page.specs.Places.{range_stretch, known_runs, HasAll, place_in, IsGiven};
 
@@ -136,6 +136,7 @@ fn fetch_content<S: Store>(
     ensures looked { Looked (page_failure name.now result) (content_budget page.now.buffers part.len) (S.tells store.old) (S.tells store.new) }
     ensures cut { IfOk result (λ cut. cut ≡ record { skip = 0; spans = one_span (range_stretch part) ∷ [] }) }
     ensures answer { ForSome (S.tells store.old).objects (λ all. AnswersOf page.now (object all name.now) (λ _. into.new ≡ bytes_in (first_of (held_buffers page.now (object all name.now))) (range_stretch part)) result) }
+    ensures bytes { ForSome (S.tells store.old).objects (λ all. IfOk result (λ cut. AreBytesAt page.now (object all name.now) cut into.new)) }
 {
     looks_add_up();
     let (content, _) = buffers(page);
@@ -273,6 +274,7 @@ fn zip_row<S: Store>(
     ensures looked { Looked (page_failure name.now result) (row_most page.now) (S.tells store.old) (S.tells store.new) }
     ensures asks { ForSome (S.tells store.old).objects (λ all. IfHeld (plain_leaf leaf.now) page.now (object all name.now) (Asks (row_budget (plain_leaf leaf.now) page.now (object all name.now) row) (S.tells store.old) (S.tells store.new))) }
     ensures answer { ForSome (S.tells store.old).objects (λ all. AnswersOf page.now (object all name.now) (λ cut. IfHeld (plain_leaf leaf.now) page.now (object all name.now) (IsCut (plain_leaf leaf.now) page.now (object all name.now) row (row + 1) cut into.new)) result) }
+    ensures bytes { ForSome (S.tells store.old).objects (λ all. IfOk result (λ cut. AreBytesAt page.now (object all name.now) cut into.new)) }
 {
     looks_add_up();
     let part = row_part(alloc, store, name, page, leaf, row)?;
@@ -299,6 +301,7 @@ pub fn fetch_row<S: Store>(
     ensures looked { Looked (page_failure name.now result) (row_most page.now) (S.tells store.old) (S.tells store.new) }
     ensures asks { ForSome (S.tells store.old).objects (λ all. IfHeld (plain_leaf leaf.now) page.now (object all name.now) (Asks (row_budget (plain_leaf leaf.now) page.now (object all name.now) row) (S.tells store.old) (S.tells store.new))) }
     ensures answer { ForSome (S.tells store.old).objects (λ all. AnswersOf page.now (object all name.now) (λ cut. IfHeld (plain_leaf leaf.now) page.now (object all name.now) (IsCut (plain_leaf leaf.now) page.now (object all name.now) row (row + 1) cut into.new)) result) }
+    ensures bytes { ForSome (S.tells store.old).objects (λ all. IfOk result (λ cut. AreBytesAt page.now (object all name.now) cut into.new)) }
 {
     looks_add_up();
     match &page.layout {
@@ -405,6 +408,7 @@ fn piece_part(page: &PageMeta, leaf: &Leaf, index: &[u8], row: u64) -> Result<Pi
     ensures within { IfOk result (λ piece. piece.part.at + piece.part.len ≤ first_len page.now.buffers) }
     ensures short { IfOk result (λ piece. piece.part.len ≤ longest (given_run (plain_leaf leaf.now) page.now index.now) row) }
     ensures exact { IsIndex (given_runs (plain_leaf leaf.now) page.now index.now) page.now.rows (first_len page.now.buffers) → IsOkAnd result (λ piece. IsPiecePart (given_run (plain_leaf leaf.now) page.now index.now) page.now.rows row piece) }
+    ensures same { IfOk result (λ piece. (all : Sequence ℕ) → length all ≤ first_len page.now.buffers → bytes_in all (range_stretch piece.part) ≡ bytes_in all (cover (given_run (plain_leaf leaf.now) page.now index.now) row piece.past)) }
     ensures fault { IfErr result (FailsGiven page.now.rows page.now.buffers index.now) }
 {
     match &page.layout {
@@ -450,6 +454,10 @@ fn zip_piece<S: Store>(
     ensures rows { IfOk result (λ piece. (piece.row ≡ row) × (row < piece.past) × (piece.past ≤ page.now.rows)) }
     ensures asks { ForSome (S.tells store.old).objects (λ all. IsIndexOf page.now (object all name.now) index.now → IfHeld (plain_leaf leaf.now) page.now (object all name.now) (Asks (piece_budget (plain_leaf leaf.now) page.now (object all name.now) row) (S.tells store.old) (S.tells store.new))) }
     ensures answer { ForSome (S.tells store.old).objects (λ all. IsIndexOf page.now (object all name.now) index.now → AnswersOf page.now (object all name.now) (λ piece. IfHeld (plain_leaf leaf.now) page.now (object all name.now) (IsPieceOf (plain_leaf leaf.now) page.now (object all name.now) row piece into.new)) result) }
+    ensures bytes { ForSome (S.tells store.old).objects (λ all. IfOk result (λ piece. AreBytesAt page.now (object all name.now) piece.cut into.new)) }
+    ensures own { ForSome (S.tells store.old).objects (λ all. IsIndexOf page.now (object all name.now) index.now → IfOk result (λ piece. into.new ≡ bytes_in (first_of (held_buffers page.now (object all name.now))) (cover (held_run (plain_leaf leaf.now) page.now (object all name.now)) row piece.past))) }
+    ensures fault { ForSome (S.tells store.old).objects (λ all. IfErr result (RefusesPiece page.now (object all name.now) index.now)) }
+    ensures whole { Looked (page_failure name.now result) (content_budget page.now.buffers (first_len page.now.buffers)) (S.tells store.old) (S.tells store.new) }
 {
     looks_add_up();
     let piece = match piece_part(page, leaf, index, row) {
@@ -486,6 +494,10 @@ pub fn fetch_piece<S: Store>(
     ensures rows { IfOk result (λ piece. (piece.row ≡ row) × (row < piece.past) × (piece.past ≤ page.now.rows)) }
     ensures asks { ForSome (S.tells store.old).objects (λ all. IsIndexOf page.now (object all name.now) index.now → IfHeld (plain_leaf leaf.now) page.now (object all name.now) (Asks (piece_budget (plain_leaf leaf.now) page.now (object all name.now) row) (S.tells store.old) (S.tells store.new))) }
     ensures answer { ForSome (S.tells store.old).objects (λ all. IsIndexOf page.now (object all name.now) index.now → AnswersOf page.now (object all name.now) (λ piece. IfHeld (plain_leaf leaf.now) page.now (object all name.now) (IsPieceOf (plain_leaf leaf.now) page.now (object all name.now) row piece into.new)) result) }
+    ensures bytes { ForSome (S.tells store.old).objects (λ all. IfOk result (λ piece. AreBytesAt page.now (object all name.now) piece.cut into.new)) }
+    ensures own { ForSome (S.tells store.old).objects (λ all. IsIndexOf page.now (object all name.now) index.now → IfOk result (λ piece. into.new ≡ bytes_in (first_of (held_buffers page.now (object all name.now))) (cover (held_run (plain_leaf leaf.now) page.now (object all name.now)) row piece.past))) }
+    ensures fault { ForSome (S.tells store.old).objects (λ all. IfErr result (RefusesPiece page.now (object all name.now) index.now)) }
+    ensures whole { Looked (page_failure name.now result) (content_budget page.now.buffers (first_len page.now.buffers)) (S.tells store.old) (S.tells store.new) }
 {
     looks_add_up();
     match &page.layout {

@@ -3,16 +3,19 @@
 
 mod asking;
 mod building;
+mod column_cursor;
 mod cut;
 mod cutting;
 mod fault;
 mod fetching;
 mod giving;
 pub mod laws;
+mod piece_rows;
 mod places;
 mod walk;
 
 pub use building::build;
+pub use column_cursor::ColumnCursor;
 pub use cut::{PieceCut, RowCut};
 pub use fault::{PageFault, PageReason};
 pub use fetching::{fetch_index, fetch_piece, fetch_row};

@@ -1,9 +1,9 @@
 // Where the rows of a page begin in its content, and how many are read at once.
-ghost use Rattle.std.specs.Prelude.{◌≡◌, ℕ, ◌+◌, ◌-◌, ◌*◌, ◌^◌, ◌<◌, ◌≤◌, max, length, IfSome, IfNone, IsSomeAnd, IsTrue};
+ghost use Rattle.std.specs.Prelude.{◌≡◌, ℕ, List as Sequence, ◌+◌, ◌-◌, ◌*◌, ◌^◌, ◌<◌, ◌≤◌, max, length, IfSome, IfNone, IsSomeAnd, IsTrue};
 ghost use Rattle.std.specs.Prelude.{◌↔◌};
 ghost use Rattle.lan_levels.specs.Past.{past};
 ghost use Rattle.lan_levels.specs.Runs.{placed, run, IsIndex};
-ghost use Rattle.lan_levels.specs.Stretch.{cover};
+ghost use Rattle.lan_levels.specs.Stretch.{bytes_in, cover};
 ghost use Rattle.lan_levels.specs.Offsets.{AreOffsets, place_at};
 ghost use Rattle.lan_index.specs.Refusals.{OffsetsStand};
 ghost use Rattle.lan_page.specs.Places.{known_runs, HasAll, place_in, range_stretch, IsListed};
@@ -133,6 +133,7 @@ impl<'a> Places<'a> {
         requires row { row < past }
         requires order { place_in self.now row ≤ place_in self.now past }
         ensures stretch { range_stretch result ≡ record { from = place_in self.now row; past = place_in self.now past } }
+        ensures same { (all : Sequence ℕ) → length all ≤ self.now.content → bytes_in all (range_stretch result) ≡ bytes_in all (cover (run (known_runs self.now.known)) row past) }
         ensures exact { IsIndex (known_runs self.now.known) self.now.rows self.now.content → range_stretch result ≡ cover (run (known_runs self.now.known)) row past }
     {
         let at = self.at(row);

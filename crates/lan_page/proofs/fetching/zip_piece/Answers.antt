@@ -3,7 +3,7 @@ use Rattle.lan_store.specs.Objects.{object}
 use Rattle.lan_page.specs.declared.cut.PieceCut.{PieceCut}
 use Rattle.lan_page.specs.Asking.{IfHeld, IsPieceOf}
 use Rattle.lan_page.proofs.ConstantPieces.{few_buffers}
-use Rattle.lan_page.proofs.GivenIndex.{index_given, held_part, piece_is, piece_asks, fails_held}
+use Rattle.lan_page.proofs.GivenIndex.{index_given, held_part, piece_is, piece_asks, piece_bytes, fails_held, refuses_given, refuses_held}
 use Rattle.lan_page.proofs.fetching.zip_piece.Goals as goal
 
 pub returns-in-Err-clause-answer : goal.returns-in-Err-clause-answer
@@ -39,3 +39,12 @@ returns-clause-answer g c = λ all told i slots h.
     let few = few_buffers page c.args.leaf.now.layers c.requires.zip c.requires.page.buffers in
     let is = held_part leaf page held c.args.index.now c.args.row c.in-Ok.piece c.requires.zip few i (c.in-Ok.ensures.exact (index_given leaf page held c.args.index.now slots c.requires.zip few i h)) in
     piece_is leaf page held c.args.row c.in-Ok.piece c.in_ok-cut.cut c.fetch_content.new.into c.requires.zip is c.in_ok-cut.ensures.cut (c.in_ok-cut.ensures.answer all told)
+
+pub returns-clause-own : goal.returns-clause-own
+returns-clause-own g c = λ all told i.
+    let page = c.args.page.now in
+    let few = few_buffers page c.args.leaf.now.layers c.requires.zip c.requires.page.buffers in
+    piece_bytes (plain_leaf c.args.leaf.now) page (object all c.args.name.now) c.args.index.now c.args.row c.in-Ok.piece c.fetch_content.new.into c.requires.zip few i c.in-Ok.ensures.same (c.in_ok-cut.ensures.answer all told)
+
+pub returns-in-Err-clause-fault : goal.returns-in-Err-clause-fault
+returns-in-Err-clause-fault g c = λ all told. refuses_given c.args.page.now (object all c.args.name.now) c.args.index.now c.in-Err.fault c.in-Err.ensures.fault

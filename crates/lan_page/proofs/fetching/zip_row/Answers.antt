@@ -14,3 +14,6 @@ returns-clause-answer g c = λ all told.
     let held = object all c.args.name.now in
     zip_answer leaf c.args.page.now held c.args.row (c.args.row + 1) c.in_ok-part.part c.fetch_content.new.into c.fetch_content.result c.requires.zip
     (λ slots h. c.in_ok-part.ensures.answer all told slots h ∙ cover_alone (held_run leaf c.args.page.now held) c.args.row) c.fetch_content.ensures.cut (c.fetch_content.ensures.answer all (c.row_part.ensures.looked.kept ∙ told))
+
+pub returns-clause-bytes : goal.returns-clause-bytes
+returns-clause-bytes g c = λ all told. c.fetch_content.ensures.bytes all (c.row_part.ensures.looked.kept ∙ told)

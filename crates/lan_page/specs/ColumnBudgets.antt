@@ -1,7 +1,8 @@
 -- What a reader of a column still asks for the rows to come.
-use Rattle.std.specs.Prelude.{ℕ, ◌+◌, ◌-◌, Bool, false, ◌&&◌, cond, List, [], ◌∷◌, nat_le, nat_lt, drop, Option, is_some}
+use Rattle.std.specs.Prelude.{ℕ, ◌+◌, ◌-◌, Bool, true, false, ◌&&◌, cond, List, [], ◌∷◌, nat_le, nat_lt, drop, Option, is_some}
 use Rattle.lan_model.specs.declared.range.Range.{Range}
 use Rattle.lan_model.specs.Leaves.{PlainLeaf}
+use Rattle.lan_levels.specs.Past.{past}
 use Rattle.lan_levels.specs.Pieces.{pieces_from}
 use Rattle.lan_levels.specs.Stretch.{Stretch, size}
 use Rattle.lan_store.specs.Budget.{Budget, nothing, plus}
@@ -41,3 +42,7 @@ column_due leaf pages held kept = pages_due leaf held pages 0 false 0 kept
 -- what the reader still asks
 abbrev pub still_due : PlainCursor → Option (List ℕ) → List ℕ → Budget
 still_due c held kept = pages_due (cursor_leaf c) held (drop c.page c.pages) c.first (is_some c.index) (row_past c.rows) kept
+
+-- and once the piece that begins at a row of the page at hand is in memory
+abbrev pub due_behind : PlainCursor → PageMeta → Option (List ℕ) → ℕ → List ℕ → Budget
+due_behind c page held row kept = pages_due (cursor_leaf c) held (drop c.page c.pages) c.first true (past (held_run (cursor_leaf c) page held) page.rows (row - c.first)) kept

@@ -126,6 +126,13 @@ pub record StaysAt (old new : PlainCursor) : Type 0 where
   pub first : new.first ≡ old.first
   pub rows : new.rows ≡ None
 
+-- it has the same index and piece
+pub record StaysIn (old new : PlainCursor) : Type 0 where
+  pub page : new.page ≡ old.page
+  pub first : new.first ≡ old.first
+  pub index : new.index ≡ old.index
+  pub past : row_past new.rows ≡ row_past old.rows
+
 -- rows of a page from one on, which is at hand
 pub record BeginsAt (leaf : PlainLeaf) (page : PageMeta) (row : ℕ) (r : PlainRows) : Type 0 where
   pub lists : r.lists ≡ lists_in leaf.layers

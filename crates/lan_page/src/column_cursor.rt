@@ -1,17 +1,18 @@
 // The rows of a column, read in rising order.
-ghost use Rattle.std.specs.Prelude.{◌≡◌, ◌↔◌, ℕ, ◌==◌, ◌-◌, ◌^◌, ◌<◌, ◌≤◌, cond, false, Bool, length, take, drop, slice_get, List as Sequence, Option, Some, None, is_some, IsSome, IsTrue, All, IfOk, IfErr, OnOk};
+ghost use Rattle.std.specs.Prelude.{◌≡◌, ◌↔◌, ℕ, ◌∷◌, ◌==◌, ◌-◌, ◌^◌, ◌<◌, ◌≤◌, cond, false, Bool, length, take, drop, slice_get, List as Sequence, Option, Some, None, is_some, IsSome, IsTrue, All, IfOk, IfErr, OnOk};
 ghost use Rattle.std.specs.Option.{ForSome};
 ghost use Rattle.lan_model.specs.Leaves.{plain_leaf};
-ghost use Rattle.lan_levels.specs.PlainSlots.{plain_slots};
+ghost use Rattle.lan_levels.specs.PlainSlots.{PlainSlot, plain_slots};
 ghost use Rattle.lan_levels.specs.SlotsOf.{lists_in};
-ghost use Rattle.lan_store.specs.Budget.{nothing};
+ghost use Rattle.lan_store.specs.Budget.{nothing, plus, Asks, IsWithin, Spends, unless_refused};
 ghost use Rattle.lan_store.specs.Looked.{Looked};
 ghost use Rattle.lan_store.specs.Objects.{object};
 ghost use Rattle.lan_meta.specs.declared.page.PageMeta.{PageMeta};
 ghost use Rattle.lan_meta.specs.PageKeeps.{KeepsRules};
-ghost use Rattle.lan_page.specs.Asking.{page_failure, content_budget, first_len, index_budget, IsIndexOf};
-ghost use Rattle.lan_page.specs.Columns.{rows_of, AreSlotsOfRow};
-ghost use Rattle.lan_page.specs.ColumnCursors.{cursor_name, cursor_leaf, cursor_pages, at_first, ReadsSame, next_row, reach, HasRow, IsAt, Knows, most_of, seek_most, RefusesColumn, LiesIn, BeginsAt, AnswersRows, StaysAt};
+ghost use Rattle.lan_page.specs.Asking.{page_failure, content_budget, first_len, index_budget, piece_budget, IfHeld, IsIndexOf};
+ghost use Rattle.lan_page.specs.Columns.{rows_of, HoldsPages, AreSlotsOfRow};
+ghost use Rattle.lan_page.specs.ColumnCursors.{cursor_name, cursor_leaf, cursor_pages, at_first, ReadsSame, next_row, reach, HasRow, IsAt, Knows, most_of, seek_most, RefusesColumn, LiesIn, BeginsAt, AnswersRows, StaysAt, StaysIn};
+ghost use Rattle.lan_page.specs.ColumnBudgets.{still_due, due_behind};
 
 use crate::cutting::lists;
 use crate::fault::PageFault;
@@ -71,6 +72,7 @@ fn page_of(pages: &PageMetas, from: PageStart, row: u64) -> PageStart
     requires behind { from.first ≤ row }
     requires there { row < rows_of pages.now }
     ensures lies { LiesIn pages.now result.page result.first row }
+    ensures ahead { from.page ≤ result.page }
     ensures most { (known : Bool) → most_of known (drop from.page pages.now) (row - from.first) ≡ most_of (cond (from.page == result.page) known false) (drop result.page pages.now) (row - result.first) }
 {
     let mut page = from.page;
@@ -100,6 +102,7 @@ fn fetch_rows<S: Store>(
     requires few { length leaf.now.layers ≤ 16 }
     requires row { row < page.now.rows }
     ensures looked { Looked (page_failure name.now result) (content_budget page.now.buffers (first_len page.now.buffers)) (S.tells store.old) (S.tells store.new) }
+    ensures asks { ForSome (S.tells store.old).objects (λ all. IsIndexOf page.now (object all name.now) index.now → IfHeld (plain_leaf leaf.now) page.now (object all name.now) (Asks (piece_budget (plain_leaf leaf.now) page.now (object all name.now) row) (S.tells store.old) (S.tells store.new))) }
     ensures rows { IfOk result (BeginsAt (plain_leaf leaf.now) page.now row) }
     ensures answer { ForSome (S.tells store.old).objects (λ all. IsIndexOf page.now (object all name.now) index.now → AnswersRows (plain_leaf leaf.now) page.now (object all name.now) result) }
 {
@@ -134,7 +137,8 @@ impl ColumnCursor {
     // Whether the slots of a row are in memory that isn't before the one at hand.
     fn has(&self, row: u64) -> bool
         requires { next_row self.now ≤ row }
-        ensures { IsTrue result ↔ (row < reach self.now) }
+        ensures reached { IsTrue result ↔ (row < reach self.now) }
+        ensures lies { IsTrue result → LiesIn self.now.pages self.now.page self.now.first row }
     {
         match &self.rows {
             Some(rows) => row - self.first < rows.past(),
@@ -148,6 +152,7 @@ impl ColumnCursor {
         requires within { row < reach self.old }
         ensures same { ReadsSame self.old self.new }
         ensures at { IsAt self.new row }
+        ensures stays { StaysIn self.old self.new }
         ensures knows { (held : Option (Sequence ℕ)) → Knows self.old held → Knows self.new held }
     {
         let place = row - self.first;
@@ -160,7 +165,9 @@ impl ColumnCursor {
     fn turn(&mut self, row: u64)
         requires order { next_row self.old ≤ row }
         requires there { row < rows_of self.old.pages }
+        requires behind { reach self.old ≤ row }
         ensures same { ReadsSame self.old self.new }
+        ensures due { (held : Option (Sequence ℕ)) (later : Sequence ℕ) → IsWithin (plus nothing (still_due self.new held (row ∷ later))) (still_due self.old held (row ∷ later)) }
         ensures lies { LiesIn self.new.pages self.new.page self.new.first row }
         ensures none { self.new.rows ≡ None }
         ensures most { most_of (is_some self.old.index) (drop self.old.page self.old.pages) (row - self.old.first) ≡ most_of (is_some self.new.index) (drop self.new.page self.new.pages) (row - self.new.first) }
@@ -210,6 +217,8 @@ impl ColumnCursor {
         requires open { IsSome self.old.index }
         requires knows { ForSome (S.tells store.old).objects (λ all. Knows self.old (object all (cursor_name self.old))) }
         ensures looked { ForSome (slice_get self.old.pages self.old.page) (λ page. Looked (page_failure (cursor_name self.old) result) (content_budget page.buffers (first_len page.buffers)) (S.tells store.old) (S.tells store.new)) }
+        ensures asks { ForSome (S.tells store.old).objects (λ all. ForSome (slice_get self.old.pages self.old.page) (λ page. IfHeld (cursor_leaf self.old) page (object all (cursor_name self.old)) (Asks (piece_budget (cursor_leaf self.old) page (object all (cursor_name self.old)) (row - self.old.first)) (S.tells store.old) (S.tells store.new)))) }
+        ensures due { ForSome (S.tells store.old).objects (λ all. ForSome (slice_get self.old.pages self.old.page) (λ page. (later : Sequence ℕ) → IfHeld (cursor_leaf self.old) page (object all (cursor_name self.old)) (OnOk result (still_due self.new (object all (cursor_name self.old)) later ≡ due_behind self.old page (object all (cursor_name self.old)) row later)))) }
         ensures same { ReadsSame self.old self.new }
         ensures at { OnOk result (IsAt self.new row) }
         ensures order { next_row self.new ≤ row }
@@ -230,7 +239,8 @@ impl ColumnCursor {
     /// Brings a row's slots to hand, where need be by a fetch of the piece that begins at the row.
     ///
     /// The row is counted from the column's front, and isn't before the one that was sought last: that one may be
-    /// sought again. After a refusal this row, or a later one, may be sought again.
+    /// sought again. After a refusal this row, or a later one, may be sought again. Of an object that holds the
+    /// column all calls together ask the index of each page that has a row sought, and each of its pieces, once.
     pub fn seek<S: Store>(
         &mut self,
         alloc: Global,
@@ -246,6 +256,7 @@ impl ColumnCursor {
         ensures order { next_row self.new ≤ row }
         ensures knows { ForSome (S.tells store.new).objects (λ all. Knows self.new (object all (cursor_name self.new))) }
         ensures reason { ForSome (S.tells store.old).objects (λ all. IfErr result (RefusesColumn (cursor_leaf self.old) (cursor_pages self.old) (object all (cursor_name self.old)))) }
+        ensures spends { ForSome (S.tells store.old).objects (λ all. (slots : Sequence PlainSlot) (later : Sequence ℕ) → HoldsPages (cursor_leaf self.old) (cursor_pages self.old) (object all (cursor_name self.old)) slots → Spends (still_due self.old (object all (cursor_name self.old)) (row ∷ later)) (unless_refused result (still_due self.new (object all (cursor_name self.old)) later)) (S.tells store.old) (S.tells store.new)) }
     {
         looks_add_up();
         if self.has(row) {

@@ -475,7 +475,8 @@ fn zip_piece<S: Store>(
 /// Fetches the bytes of the piece that begins at a row, in one range of at most 2^20 bytes or of the row's own.
 ///
 /// `index` is what `fetch_index` gave of the page. Of a constant page nothing is asked, and a piece of it has up to
-/// 32,768 rows. After a refusal what is in `into` isn't said.
+/// 32,768 rows. A reason is one of the object, or of the index that is handed over. After a refusal what is in
+/// `into` isn't said.
 pub fn fetch_piece<S: Store>(
     alloc: Global,
     store: &mut S,

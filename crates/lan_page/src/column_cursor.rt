@@ -21,11 +21,12 @@ use crate::giving::piece_slots;
 use crate::piece_rows::PieceRows;
 use lan_levels::{SlotBuf, SlotRun};
 use lan_meta::{PageMeta, PageMetas};
-use lan_model::{Blob, Leaf};
+use lan_model::{Blob, Leaf, Text};
 use lan_store::laws::looks_add_up;
-use lan_store::{Name, Store};
+use lan_store::{Dir, Name, Store};
 use std::alloc::{AllocError, Global};
 use std::marker::Model;
+use std::mem;
 
 /// A reader of the rows of one column of an object, in rising order.
 ///
@@ -266,6 +267,19 @@ impl ColumnCursor {
         self.turn(row);
         self.open(alloc, store)?;
         self.read(alloc, store, row)
+    }
+
+    /// Gives up the name of the object; nothing is read of it any more.
+    pub fn take_name(&mut self, alloc: Global) -> Name
+        ensures { result ≡ cursor_name self.old }
+    {
+        mem::replace(
+            &mut self.name,
+            Name {
+                dir: Dir::Data,
+                rest: Text::new(alloc),
+            },
+        )
     }
 
     /// Lends the slots of the row at hand.

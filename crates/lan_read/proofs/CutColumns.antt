@@ -100,7 +100,7 @@ cut_column leaf slots values begins rows =
     ∙ ap one_after_another rows
     ∙ joined_is leaf values
 
-fit_each : (f : PlainField ℕ) (values : List PlainValue) → AllFit f (values_from values) → All (Fits f) values
+pub fit_each : (f : PlainField ℕ) (values : List PlainValue) → AllFit f (values_from values) → All (Fits f) values
 fit_each f [] fit = All-nil (Fits f)
 fit_each f (v ∷ values) fit = All-cons (Fits f) v values fit.0 (fit_each f values fit.1)
 

@@ -30,7 +30,7 @@ use Rattle.lan_read.proofs.SingleTable.{one_manifest_held, only_item, whole_at}
 as_values : (bytes : List ℕ) (column count : ℕ) (leaf : PlainLeaf) (values : List PlainValue) → length values ≡ count → HasSlots bytes count column leaf (column_slots leaf values) → HoldsColumn bytes column leaf values
 as_values bytes column count leaf values long has = subst (λ (n : ℕ). HasSlots bytes n column leaf (column_slots leaf values)) (sym long) has
 
-as_slots : (bytes : List ℕ) (column count : ℕ) (leaf : PlainLeaf) (values : List PlainValue) → length values ≡ count → HoldsColumn bytes column leaf values → HasSlots bytes count column leaf (column_slots leaf values)
+pub as_slots : (bytes : List ℕ) (column count : ℕ) (leaf : PlainLeaf) (values : List PlainValue) → length values ≡ count → HoldsColumn bytes column leaf values → HasSlots bytes count column leaf (column_slots leaf values)
 as_slots bytes column count leaf values long holds = subst (λ (n : ℕ). HasSlots bytes n column leaf (column_slots leaf values)) long holds
 
 one_slots : (bytes : List ℕ) (column count : ℕ) (leaf : PlainLeaf) (xs ys : List PlainSlot) → HasSlots bytes count column leaf xs → HasSlots bytes count column leaf ys → xs ≡ ys

@@ -34,14 +34,14 @@ read_each_as : {M : Type 0} (Say Other : Placed → M → Type 0) → ((part : P
 read_each_as {M} Say Other as_other [] ms p = p
 read_each_as {M} Say Other as_other (part ∷ parts) ms (first, rest, is, here, later) = (first, rest, is, as_other part first here, read_each_as Say Other as_other parts rest later)
 
-column_of : (top end : ℕ) (leaf : PlainLeaf) (message : Placed) (pages : List PageMeta) → ColumnOf message (below_top top leaf) end pages → ColumnOf message leaf end pages
+pub column_of : (top end : ℕ) (leaf : PlainLeaf) (message : Placed) (pages : List PageMeta) → ColumnOf message (below_top top leaf) end pages → ColumnOf message leaf end pages
 column_of top end leaf message pages p = record {
   items = p.items;
   reads = p.reads;
   said = read_each_as (StandsForPage (below_top top leaf) end) (StandsForPage leaf end) (page_stands top end leaf) (parts_under 2 p.items) pages p.said;
 }
 
-laid_out : (top rows : ℕ) (leaf : PlainLeaf) (layout : Layout) (buffers : List (List ℕ)) (slots : List PlainSlot) → LaidOut (below_top top leaf) rows layout buffers slots → LaidOut leaf rows layout buffers slots
+pub laid_out : (top rows : ℕ) (leaf : PlainLeaf) (layout : Layout) (buffers : List (List ℕ)) (slots : List PlainSlot) → LaidOut (below_top top leaf) rows layout buffers slots → LaidOut leaf rows layout buffers slots
 laid_out top rows leaf (Constant codes count value) buffers slots p = p
 laid_out top rows leaf (Mini codes count values) buffers slots p = p
 laid_out top rows leaf (Zip codes count values) buffers slots p = p

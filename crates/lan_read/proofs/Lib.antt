@@ -2,6 +2,7 @@ pub mod ChangedRows
 pub mod ChangedTables
 pub mod CutColumns
 pub mod FragmentRead
+pub mod HeldColumns
 pub mod JoinedRows
 pub mod KeptTables
 pub mod LawTerms
@@ -12,6 +13,8 @@ pub mod NewestOpened
 pub mod OneTable
 pub mod PlainTables
 pub mod RowLists
+pub mod RowRuns
+pub mod RowsInColumns
 pub mod SingleTable
 pub mod WholeFields
 pub mod WrittenFiles

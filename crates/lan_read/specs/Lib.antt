@@ -1,6 +1,7 @@
 pub mod Changes
 pub mod Cut
 pub mod Failures
+pub mod FieldReaders
 pub mod Fragments
 pub mod Given
 pub mod Joined

@@ -1,13 +1,14 @@
 //! What holds of the tables that objects stand for, each law as the contract of a function with an empty
 //! body. A proof of another crate cites a law by its term in `proofs/LawTerms.antt`.
 
-ghost use Rattle.std.specs.Prelude.{◌≡◌, ◌≢◌, ◌-◌, ◌<◌, ◌++◌, [], ◌∷◌, ℕ, List, All, AllPairs, Some, get_or, length, map, remove, slice_get};
+ghost use Rattle.std.specs.Prelude.{◌≡◌, ◌≢◌, ◌-◌, ◌<◌, ◌++◌, [], ◌∷◌, ℕ, List, All, AllPairs, Contains, Some, get_or, length, map, remove, slice_get};
 ghost use Rattle.lan_model.specs.After.{each_with, without};
 ghost use Rattle.lan_model.specs.Dataset.{Dataset, with_version};
 ghost use Rattle.lan_model.specs.Fits.{AllFit, Fits};
 ghost use Rattle.lan_bytes.specs.Placed.{Placed};
 ghost use Rattle.lan_model.specs.Plain.{PlainField, PlainValue, null, fields_from, unnumbered, values_from};
 ghost use Rattle.lan_model.specs.Table.{AreFields, FitsRow, IsField, Table};
+ghost use Rattle.lan_levels.specs.declared.join.Join.{Join};
 ghost use Rattle.lan_store.specs.declared.name.Name.{Name};
 ghost use Rattle.lan_store.specs.declared.name.Object.{Object};
 ghost use Rattle.lan_read.specs.declared.fault.PlainReason.{PlainReason};
@@ -20,6 +21,7 @@ ghost use Rattle.lan_manifest.specs.Reads.{ManifestAt};
 ghost use Rattle.lan_manifest.specs.Stage.{IsOneColumn, IsOneFile};
 ghost use Rattle.lan_manifest.specs.Versions.{AreListed, IsNewest, NoneListed};
 ghost use Rattle.lan_read.specs.Changes.{AddsFile, AddToEach, GivesNone, new_fragment, with_file};
+ghost use Rattle.lan_read.specs.FieldReaders.{RowHasNoValue};
 ghost use Rattle.lan_read.specs.Given.{AreWhole, IsWhole, NoneGiven};
 ghost use Rattle.lan_read.specs.Joined.{FieldJoins, FragmentJoins, RowJoins};
 ghost use Rattle.lan_read.specs.Listings.{IsFileOfRows, all_listings, file_of_fields, ids_in, rows_of_one};
@@ -172,4 +174,15 @@ pub fn joined_values_are_those_of_rows()
         → PhysicalRows objects fields files count rows → slice_get fields top ≡ Some f → j < count → FieldJoins objects files count j f v → v ≡ get_or (get_or rows j []) top null }
     ensures row { (objects : List Object) (fields : List (PlainField ℕ)) (files : List DataFile) (count : ℕ) (rows : List (List PlainValue)) (j : ℕ) (row : List PlainValue) → AreFields (fields_from fields) → All (IsWhole files) fields
         → PhysicalRows objects fields files count rows → j < count → RowJoins objects fields files count j row → row ≡ get_or rows j [] }
+{}
+
+/// Where the slots of a row are those of no value, the files have no such rows: the fragment gives none, and the
+/// version stands for no table.
+pub fn rows_without_a_value_refute()
+    ensures rows { (objects : List Object) (fields : List (PlainField ℕ)) (files : List DataFile) (count : ℕ) (rows : List (List PlainValue)) (top row : ℕ) (f : PlainField ℕ) (error : Join) → IsField f → slice_get fields top ≡ Some f
+        → RowHasNoValue objects files count f row error → PhysicalRows objects fields files count rows → ⊥ }
+    ensures fragment { (objects : List Object) (fields : List (PlainField ℕ)) (fragment : Fragment) (kept : List (List PlainValue)) (top row : ℕ) (f : PlainField ℕ) (error : Join) → AreFields (fields_from fields) → slice_get fields top ≡ Some f
+        → RowHasNoValue objects fragment.files fragment.rows f row error → FragmentGives objects fields fragment kept → ⊥ }
+    ensures table { (objects : List Object) (version : ℕ) (t : Table) (m : PlainManifest) (fragment : Fragment) (top row : ℕ) (f : PlainField ℕ) (error : Join) → AreFields (fields_from m.fields) → HasManifest objects version m → Contains m.fragments fragment → slice_get m.fields top ≡ Some f
+        → RowHasNoValue objects fragment.files fragment.rows f row error → StandsFor objects version t → ⊥ }
 {}

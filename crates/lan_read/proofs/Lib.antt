@@ -12,9 +12,11 @@ pub mod Newest
 pub mod NewestOpened
 pub mod OneTable
 pub mod PlainTables
+pub mod ReadValues
 pub mod RowLists
 pub mod RowRuns
 pub mod RowsInColumns
+pub mod SeekEach
 pub mod SingleTable
 pub mod WholeFields
 pub mod WrittenFiles

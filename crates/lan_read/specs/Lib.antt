@@ -5,6 +5,7 @@ pub mod FieldReaders
 pub mod Fragments
 pub mod Given
 pub mod Joined
+pub mod Joining
 pub mod Listings
 pub mod Newest
 pub mod Opens

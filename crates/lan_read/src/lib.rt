@@ -2,6 +2,7 @@
 #![tactic(auto)]
 
 mod fault;
+mod field_reader;
 mod fragment;
 pub mod laws;
 mod object;

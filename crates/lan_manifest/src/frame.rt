@@ -1,5 +1,6 @@
-ghost use Rattle.std.specs.Prelude.{IfOk, IfErr};
-ghost use Rattle.lan_manifest.specs.Frame.{IsFramed, FailsFrame};
+ghost use Rattle.std.specs.Prelude.{◌≡◌, ◌+◌, IfOk, IfErr, IfSome, IfNone};
+ghost use Rattle.lan_bytes.specs.Placed.{Placed};
+ghost use Rattle.lan_manifest.specs.Frame.{IsFramed, FailsFrame, place_in};
 
 use crate::fault::ManifestFault;
 use lan_bytes::View;
@@ -39,5 +40,16 @@ pub(crate) fn message_in<'a>(object: &View<'a>) -> Result<View<'a>, ManifestFaul
     match object.cut(place + LENGTH_BYTES, u64::from(len)) {
         Some(message) => Ok(message),
         None => Err(ManifestFault::Region),
+    }
+}
+
+/// Where the message of a manifest begins in its object. None where the object holds none.
+pub fn message_place(object: View<'_>) -> Option<u64>
+    ensures some { IfSome result (λ place. place ≡ object.entry.base + (place_in object.entry.bytes + 4)) }
+    ensures none { IfNone result ((message : Placed) → IsFramed object.entry message → ⊥) }
+{
+    match message_in(&object) {
+        Ok(message) => Some(message.base()),
+        Err(_fault) => None,
     }
 }

@@ -19,6 +19,7 @@ mod versions;
 mod writing;
 
 pub use fault::ManifestFault;
+pub use frame::message_place;
 pub use manifest::{DataFile, DataFiles, Deletion, Fragment, Fragments, Manifest};
 pub use plain::{PlainFault, read_plain};
 pub use reading::read_manifest;

@@ -11,6 +11,7 @@ pub mod Monotone
 pub mod Newest
 pub mod NewestOpened
 pub mod OneTable
+pub mod OpenedVersions
 pub mod PlainTables
 pub mod ReadValues
 pub mod RowLists

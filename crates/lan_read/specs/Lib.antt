@@ -8,6 +8,7 @@ pub mod Joined
 pub mod Joining
 pub mod Listings
 pub mod Newest
+pub mod Opening
 pub mod Opens
 pub mod Reasons
 pub mod Rows

@@ -12,6 +12,7 @@ ghost use Rattle.lan_levels.specs.declared.join.Join.{Join};
 ghost use Rattle.lan_store.specs.declared.name.Name.{Name};
 ghost use Rattle.lan_store.specs.declared.name.Object.{Object};
 ghost use Rattle.lan_read.specs.declared.fault.PlainReason.{PlainReason};
+ghost use Rattle.lan_read.specs.declared.read_fault.Reason.{Reason};
 ghost use Rattle.lan_file.specs.Stage.{IsRequiredFixed};
 ghost use Rattle.lan_manifest.specs.declared.manifest.DataFile.{DataFile};
 ghost use Rattle.lan_manifest.specs.declared.manifest.Fragment.{Fragment};
@@ -26,6 +27,7 @@ ghost use Rattle.lan_read.specs.Given.{AreWhole, IsWhole, NoneGiven};
 ghost use Rattle.lan_read.specs.Joined.{FieldJoins, FragmentJoins, RowJoins};
 ghost use Rattle.lan_read.specs.Listings.{IsFileOfRows, all_listings, file_of_fields, ids_in, rows_of_one};
 ghost use Rattle.lan_read.specs.Newest.{IsNewestOf};
+ghost use Rattle.lan_read.specs.Opening.{ManifestReasonStands};
 ghost use Rattle.lan_read.specs.Reasons.{Stands, StandsUnread};
 ghost use Rattle.lan_read.specs.Rows.{FragmentGives, FragmentsGive, IsHeld, PhysicalRows};
 ghost use Rattle.lan_read.specs.Standing.{RowsOf, StandsAt, data_name};
@@ -185,4 +187,11 @@ pub fn rows_without_a_value_refute()
         → RowHasNoValue objects fragment.files fragment.rows f row error → FragmentGives objects fields fragment kept → ⊥ }
     ensures table { (objects : List Object) (version : ℕ) (t : Table) (m : PlainManifest) (fragment : Fragment) (top row : ℕ) (f : PlainField ℕ) (error : Join) → AreFields (fields_from m.fields) → HasManifest objects version m → Contains m.fragments fragment → slice_get m.fields top ≡ Some f
         → RowHasNoValue objects fragment.files fragment.rows f row error → StandsFor objects version t → ⊥ }
+{}
+
+/// Where a reason stands in what is held as a version's manifest, the objects have none of the version, and stand
+/// for no table at it.
+pub fn refused_manifests_are_none()
+    ensures manifest { (objects : List Object) (version : ℕ) (name : Name) (why : Reason) (place : ℕ) (m : PlainManifest) → ManifestReasonStands objects version name why place → HasManifest objects version m → ⊥ }
+    ensures table { (objects : List Object) (version : ℕ) (name : Name) (why : Reason) (place : ℕ) (t : Table) → ManifestReasonStands objects version name why place → StandsFor objects version t → ⊥ }
 {}

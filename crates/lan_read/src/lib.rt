@@ -8,8 +8,10 @@ pub mod laws;
 mod object;
 mod opening;
 mod read_fault;
+mod snapshot;
 
 pub use fault::{FragmentFault, ManifestReason, PlainReadFault, PlainReason};
 pub use fragment::read_fragment;
 pub use opening::{newest_version, open_newest};
 pub use read_fault::{ReadFault, Reason};
+pub use snapshot::Snapshot;

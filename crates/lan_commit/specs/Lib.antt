@@ -1,3 +1,6 @@
+pub mod BuiltColumns
+pub mod Change
+pub mod ChangePuts
 pub mod Changes
 pub mod Commits
 pub mod Creates
@@ -5,6 +8,8 @@ pub mod Failures
 pub mod First
 pub mod Greatest
 pub mod Limits
+pub mod NewRows
 pub mod Prepares
 pub mod Puts
+pub mod Shredded
 pub mod Stage

@@ -1,5 +1,5 @@
 // The greatest fragment id that a change writes.
-ghost use Rattle.std.specs.Prelude.{◌≡◌, [], None};
+ghost use Rattle.std.specs.Prelude.{◌≡◌, [], None, Some};
 ghost use Rattle.lan_manifest.specs.Manifests.{plain_manifest};
 ghost use Rattle.lan_commit.specs.Greatest.{greater, greatest_written};
 
@@ -15,6 +15,16 @@ pub fn greatest_known(manifest: &Manifest) -> Option<u32>
         known = Some(greater(known, fragment.id));
     }
     known
+}
+
+/// The same of the newest manifest and of the old one that is restored.
+pub fn greatest_of_both(newest: &Manifest, old: &Manifest) -> Option<u32>
+    ensures { result ≡ greatest_written (plain_manifest newest.now) (Some (plain_manifest old.now)) [] }
+{
+    match (greatest_known(newest), greatest_known(old)) {
+        (known, Some(id)) => Some(greater(known, id)),
+        (known, None) => known,
+    }
 }
 
 fn greater(known: Option<u32>, id: u32) -> u32

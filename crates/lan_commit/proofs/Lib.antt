@@ -3,6 +3,8 @@ pub mod AppendAgrees
 pub mod Appended
 pub mod BuiltRows
 pub mod Calls
+pub mod ChangeNames
+pub mod ChangeStands
 pub mod Columns
 pub mod Created
 pub mod FirstTable
@@ -10,11 +12,17 @@ pub mod GreatestIds
 pub mod GreatestOfBoth
 pub mod LawTerms
 pub mod LeafDepths
+pub mod ListedIds
+pub mod ListedMore
+pub mod ManifestRules
 pub mod NeverHeld
 pub mod NextManifest
+pub mod NextRules
 pub mod NextVersion
 pub mod NoLimit
+pub mod NumberedFields
 pub mod PagesCounted
 pub mod ShreddedRows
 pub mod Snapshots
 pub mod Unseen
+pub mod WrittenRows

@@ -8,6 +8,7 @@ pub mod Failures
 pub mod First
 pub mod Greatest
 pub mod Limits
+pub mod Makes
 pub mod NewRows
 pub mod Prepares
 pub mod Puts

@@ -1,18 +1,16 @@
 -- The names of a change's objects aren't held.
-use Rattle.std.proofs.Common.{◌≡◌, sym, ap, subst, ℕ, zero, suc, ◌+◌, ◌^◌, ◌<◌, List, [], ◌∷◌, ◌++◌, length, arith, append-nil}
+use Rattle.std.proofs.Common.{◌≡◌, subst, ℕ, zero, suc, ◌+◌, ◌<◌, List, [], ◌∷◌, ◌++◌, length, arith, append-nil}
 use Rattle.std.specs.Prelude.{Option, None, IsSome}
-use Rattle.lan_model.specs.Plain.{PlainValue}
 use Rattle.lan_model.specs.Table.{Table}
 use Rattle.lan_store.specs.declared.name.Object.{Object}
 use Rattle.lan_store.specs.Objects.{object}
 use Rattle.lan_store.specs.PutsAll.{IsHeldAt}
-use Rattle.lan_fresh.specs.Fresh.{file_path, fresh_file}
+use Rattle.lan_fresh.specs.Fresh.{fresh_file}
 use Rattle.lan_fresh.proofs.LawTerms.{fresh_is_free}
-use Rattle.lan_manifest.specs.Manifests.{PlainManifest, manifest_object}
+use Rattle.lan_manifest.specs.Manifests.{manifest_object}
 use Rattle.lan_manifest.specs.Versions.{IsListed, IsVersion, manifest_name}
-use Rattle.lan_read.specs.Standing.{data_name}
 use Rattle.lan_commit.specs.Change.{Change, create, append, restore, manifest_after, next_of}
-use Rattle.lan_commit.specs.ChangePuts.{data_object, files_of, limit_of, puts_of}
+use Rattle.lan_commit.specs.ChangePuts.{data_object, limit_of, puts_of}
 use Rattle.lan_commit.specs.Limits.{bytes_limit}
 use Rattle.lan_commit.specs.Makes.{Makes}
 use Rattle.lan_commit.proofs.ChangeStands.{change_stands, files_nothing, next_later}

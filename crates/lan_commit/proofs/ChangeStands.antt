@@ -1,21 +1,19 @@
 -- A change that reaches no limit: with its objects the next version stands, and before its manifest nothing of it is seen.
-use Rattle.std.proofs.Common.{◌≡◌, refl, sym, ◌∙◌, ap, subst, ℕ, zero, suc, ◌+◌, ◌^◌, ◌<◌, ◌≤◌, List, [], ◌∷◌, ◌++◌, length, take, arith, lit<, append-nil, Bool, true, false}
-use Rattle.std.specs.Prelude.{Option, Some, None, IsSome, All, nat_lt}
+use Rattle.std.proofs.Common.{◌≡◌, refl, sym, ◌∙◌, subst, ℕ, ◌+◌, ◌^◌, ◌<◌, ◌≤◌, List, [], ◌∷◌, ◌++◌, length, take, arith, lit<, append-nil, false}
+use Rattle.std.specs.Prelude.{Option, None, IsSome, nat_lt}
 use Rattle.std.specs.List.{AllByRecursion, list_any}
 use Rattle.std.proofs.lemmas.Bool.{or_parts}
 use Rattle.std.proofs.lemmas.Bool.Decides.{nat_tests}
 use Rattle.lan_model.specs.Dataset.{Dataset, with_version}
 use Rattle.lan_model.specs.Plain.{PlainField, PlainValue, fields_from}
 use Rattle.lan_model.specs.Table.{Table}
-use Rattle.lan_store.specs.declared.name.Name.{Name}
 use Rattle.lan_store.specs.declared.name.Object.{Object}
 use Rattle.lan_store.specs.Objects.{object}
-use Rattle.lan_store.specs.PutsAll.{IsHeldAt}
 use Rattle.lan_store.proofs.LawTerms.{first_held, held_behind}
 use Rattle.lan_fresh.specs.Fresh.{file_path, fresh_file, fresh_fragment}
 use Rattle.lan_fresh.proofs.LawTerms.{fresh_is_free, path_is_path}
 use Rattle.lan_manifest.specs.Manifests.{PlainManifest, framed, manifest_object, manifest_text}
-use Rattle.lan_manifest.specs.Versions.{AreListed, IsListed, IsNewest, IsVersion, NoneListed, manifest_name}
+use Rattle.lan_manifest.specs.Versions.{IsListed, IsNewest, IsVersion, NoneListed, manifest_name}
 use Rattle.lan_manifest.proofs.ObjectBack.{framed_long}
 use Rattle.lan_read.specs.Changes.{new_fragment}
 use Rattle.lan_read.specs.Listings.{IsFileOfRows, file_of_fields}
@@ -24,7 +22,7 @@ use Rattle.lan_read.specs.Snapshots.{IsNewestManifest}
 use Rattle.lan_read.specs.Standing.{data_name}
 use Rattle.lan_read.specs.Tables.{AgreesWith, HasManifest, StandsFor}
 use Rattle.lan_read.proofs.LawTerms.{agreement_stays, append_stands, create_stands, fragment_written, restore_stands, table_stays}
-use Rattle.lan_commit.specs.Change.{Change, create, append, restore, manifest_after, next_as, next_of, next_with_file}
+use Rattle.lan_commit.specs.Change.{Change, create, append, restore, manifest_after, next_as, next_of}
 use Rattle.lan_commit.specs.ChangePuts.{data_object, files_of, limit_of, puts_of, rows_text}
 use Rattle.lan_commit.specs.First.{first_manifest, no_rows}
 use Rattle.lan_commit.specs.Limits.{bytes_limit}

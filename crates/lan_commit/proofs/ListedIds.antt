@@ -1,6 +1,6 @@
 -- The ids that the lists of a data file of fields have: they differ, and those with a column of their own are the leaves'.
-use Rattle.std.proofs.Common.{◌≡◌, ◌≢◌, inl, inr, refl, sym, ◌∙◌, ap, subst, ℕ, zero, suc, ◌+◌, ◌^◌, ◌<◌, Bool, true, false, cond, not, List, [], ◌∷◌, ◌++◌, length, get_or, map, arith, append-nil}
-use Rattle.std.specs.Prelude.{ℤ, pos, negsuc, ◌&&◌, ◌||◌, All, AllPairs, IsTrue, nat_eq}
+use Rattle.std.proofs.Common.{◌≡◌, ◌≢◌, inl, inr, refl, sym, ◌∙◌, ap, subst, ℕ, zero, suc, ◌+◌, ◌^◌, ◌<◌, Bool, true, false, cond, not, List, [], ◌∷◌, ◌++◌, length, get_or, arith, append-nil}
+use Rattle.std.specs.Prelude.{ℤ, ◌&&◌, ◌||◌, All, AllPairs, IsTrue, nat_eq}
 use Rattle.std.specs.List.{AllByRecursion, list_all, list_any}
 use Rattle.std.proofs.lemmas.Bool.{and_parts, cases_Bool, eq-eqb, or_parts, or_right, true≢false}
 use Rattle.std.proofs.lemmas.List.{length-append, length-map, map-append}
@@ -11,7 +11,7 @@ use Rattle.lan_model.specs.Table.{IsField, AreFields, names_of}
 use Rattle.lan_schema.specs.FieldTree.{signed}
 use Rattle.lan_schema.specs.Forest.{Trees, none, tree, same, Absent, Apart, AreDistinct}
 use Rattle.lan_schema.specs.Listed.{is_negative}
-use Rattle.lan_schema.specs.Written.{CanTell, CanTellAll, tree_before, trees_in, trees_of}
+use Rattle.lan_schema.specs.Written.{CanTell, CanTellAll, tree_before, trees_of}
 use Rattle.lan_schema.proofs.ForestLaws.{same_is, same_self}
 use Rattle.lan_schema.proofs.WrittenTrees.{small_signed}
 use Rattle.lan_wire.specs.Readers.{IsInt32}

@@ -1,5 +1,5 @@
 -- Fields that are numbered depth first have each a number of its own.
-use Rattle.std.proofs.Common.{◌≡◌, refl, sym, ◌∙◌, ap, subst, ℕ, ◌+◌, ◌<◌, ◌≤◌, List, map, arith}
+use Rattle.std.proofs.Common.{◌≡◌, sym, ◌∙◌, ap, subst, ℕ, ◌+◌, ◌<◌, ◌≤◌, List, map, arith}
 use Rattle.std.specs.Prelude.{ℤ, pos}
 use Rattle.lan_model.specs.Plain.{PlainType, primitive, vector, text, bytes as binary, list, struct, PlainField, field, PlainFields, no_fields, one_field, fields_from, unnumbered}
 use Rattle.lan_model.specs.Table.{AreColumns}

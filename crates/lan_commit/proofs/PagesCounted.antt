@@ -1,7 +1,6 @@
 -- The rows of the pages of a column can be counted where its slots can.
-use Rattle.std.proofs.Common.{◌≡◌, ◌&&◌, ◌==◌, ℕ, ◌+◌, ◌^◌, ◌<◌, ◌≤◌, Bool, true, false, cond, refl, sym, ◌∙◌, ap, subst, List, [], ◌∷◌, ◌++◌, length, map, arith, append_assoc, append-nil}
-use Rattle.std.specs.Prelude.{All, Option, Some, None, sum_by}
-use Rattle.std.proofs.lemmas.List.Elements.{All-nil, All-cons, All-head, All-tail}
+use Rattle.std.proofs.Common.{◌≡◌, ◌&&◌, ◌==◌, ℕ, ◌+◌, ◌≤◌, Bool, true, false, cond, refl, ◌∙◌, ap, List, [], ◌∷◌, ◌++◌, length, map, arith, append_assoc, append-nil}
+use Rattle.std.specs.Prelude.{Option, Some, None, sum_by}
 use Rattle.std.proofs.lemmas.List.Sums.{sum_by-cons}
 use Rattle.lan_file.proofs.WrittenColumn.{starts-append}
 use Rattle.lan_levels.specs.PagesWritten.{is_full, pages_from, constant_of}

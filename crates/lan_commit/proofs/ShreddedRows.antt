@@ -12,7 +12,7 @@ use Rattle.lan_model.specs.Room.{AllHaveRoom}
 use Rattle.lan_model.specs.Table.{AreColumns, FitsRow}
 use Rattle.lan_schema.proofs.LawTerms.{columns_same}
 use Rattle.lan_schema.proofs.Numbering.{left_at}
-use Rattle.lan_commit.specs.Shredded.{Shredded, with_row, columns_of, CanBeWritten, AreRows}
+use Rattle.lan_commit.specs.Shredded.{with_row, columns_of, AreRows}
 use Rattle.lan_commit.proofs.LeafDepths.{leaves_shallow}
 
 slots_more : (leaf : PlainLeaf) (rows : List PlainValues) (row : PlainValues) → rows_slots leaf rows ++ row_slots leaf row ≡ rows_slots leaf (rows ++ row ∷ [])

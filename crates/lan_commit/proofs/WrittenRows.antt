@@ -1,5 +1,5 @@
 -- The data file of rows is a file of them.
-use Rattle.std.proofs.Common.{◌≡◌, refl, sym, ◌∙◌, ap, ap₂, subst, ℕ, zero, suc, ◌+◌, ◌^◌, ◌<◌, ◌≤◌, List, [], ◌∷◌, ◌++◌, length, get_or, map, arith, append_assoc}
+use Rattle.std.proofs.Common.{◌≡◌, refl, sym, ◌∙◌, ap, subst, ℕ, ◌+◌, ◌^◌, ◌<◌, ◌≤◌, List, [], ◌∷◌, ◌++◌, length, map, arith, append_assoc}
 use Rattle.std.specs.Prelude.{All, Some, slice_get}
 use Rattle.std.proofs.lemmas.List.{get_or-map, length-map, length_push}
 use Rattle.std.proofs.lemmas.List.Elements.{All-map}
@@ -12,7 +12,6 @@ use Rattle.lan_model.specs.Room.{AllHaveRoom}
 use Rattle.lan_schema.specs.Written.{AreTableFields}
 use Rattle.lan_file.specs.FileOf.{IsFileOf}
 use Rattle.lan_file.specs.FileText.{file_text}
-use Rattle.lan_file.specs.Heads.{Pick}
 use Rattle.lan_file.specs.SlotsWritten.{AreLeaves, TakesRows, rows_columns, slots_asked}
 use Rattle.lan_file.proofs.LawTerms.{rows_are_a_file}
 use Rattle.lan_read.specs.Listings.{IsFileOfRows, picks_from}

@@ -100,6 +100,7 @@ fn shred_each(leaves: &[Leaf], row: &Row, columns: &mut List<SlotBuf>) -> Result
     Ok(())
 }
 
+// Adds the row's slots, which can be counted as all slots can.
 fn shred_counted(leaf: &Leaf, row: &Row, slots: &mut SlotBuf) -> Result<(), AllocError>
     requires { length leaf.now.layers ≤ 16 }
     ensures ok { OnOk result (slots.new ≡ slots.old ++ row_slots (plain_leaf leaf.now) (plain_values row.now)) }

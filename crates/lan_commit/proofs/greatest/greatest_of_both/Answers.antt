@@ -1,5 +1,5 @@
 use Rattle.std.proofs.Common.{◌≡◌, ◌∙◌, ap, sym, ℕ}
-use Rattle.std.specs.Prelude.{Option, Some, None}
+use Rattle.std.specs.Prelude.{Some, None}
 use Rattle.lan_manifest.specs.Manifests.{plain_manifest}
 use Rattle.lan_commit.proofs.GreatestOfBoth.{either_greater, greatest_both}
 use Rattle.lan_commit.proofs.greatest.greatest_of_both.Goals as goal

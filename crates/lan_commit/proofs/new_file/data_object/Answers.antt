@@ -1,4 +1,4 @@
-use Rattle.std.proofs.Common.{◌≡◌, ◌<◌, ◌^◌, ◌∙◌, ℕ, List, sym, subst, length, map}
+use Rattle.std.proofs.Common.{◌≡◌, ◌<◌, ◌^◌, ◌∙◌, List, sym, subst, length, map}
 use Rattle.std.specs.Prelude.{All, sum_by}
 use Rattle.lan_meta.specs.declared.page.BuiltPage.{BuiltPage}
 use Rattle.lan_model.specs.Plain.{plain_field, plain_fields, values_from}

@@ -11,7 +11,7 @@ use Rattle.lan_form.proofs.Depths.{columns_are}
 pub plain_rolled : (id : ℕ) (name : List ℕ) (nullable : Bool) (ty : Ty) → plain_field (roll-Field (record { id = id; name = name; nullable = nullable; ty = ty })) ≡ field id name nullable (plain_type ty)
 plain_rolled id name nullable ty = search (rules, declared.the_lemmas)
 
-plain_struct : (fs : List Field) → plain_type (Struct fs) ≡ struct (plain_fields fs)
+pub plain_struct : (fs : List Field) → plain_type (Struct fs) ≡ struct (plain_fields fs)
 plain_struct fs = search (rules, the_lemmas)
 
 pub struct_column : (fs : List Field) → type_unnumbered (plain_type (Struct fs)) ≡ struct (fields_from (map column_of fs))

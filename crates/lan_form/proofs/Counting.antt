@@ -42,7 +42,7 @@ count_more : (n : ℕ) (fs : List (PlainField ℕ)) (f : PlainField ℕ) → Cou
 count_more n [] f all one = (subst (λ k. CountsFrom k f) (omega arith) one, tt)
 count_more n (g ∷ fs) f all one = (all.0, count_more (n + fields_in g) fs f all.1 (subst (λ k. CountsFrom k f) (omega arith) one))
 
-plain_more : (fs : List Field) (f : Field) → plain_fields (fs ++ f ∷ []) ≡ fields_from (map plain_field fs ++ plain_field f ∷ [])
+pub plain_more : (fs : List Field) (f : Field) → plain_fields (fs ++ f ∷ []) ≡ fields_from (map plain_field fs ++ plain_field f ∷ [])
 plain_more [] f = refl
 plain_more (g ∷ fs) f = ap (one_field (plain_field g)) (plain_more fs f)
 

@@ -69,5 +69,5 @@ mutual
   all_same_in no_fields = refl
   all_same_in (one_field f fs) = ap₂ (λ m n. m + n) (same_in f) (all_same_in fs)
 
-pub few_fields : {I : Type 0} (fs : PlainFields I) → AreFields (all_unnumbered fs) → are_shallow (all_depths (all_unnumbered fs) 0) ≡ true → all_leaves (all_unnumbered fs) ≤ 1024 → all_in fs < 2 ^ 32
+pub few_fields : {I : Type 0} (fs : PlainFields I) → AreFields (all_unnumbered fs) → are_shallow (all_depths (all_unnumbered fs) 0) ≡ true → all_leaves (all_unnumbered fs) ≤ 1024 → all_in fs < 2 ^ 31
 few_fields fs is shallow few = omega (arith, all_few (all_unnumbered fs) 0 16 refl is shallow, few, all_same_in fs)

@@ -9,5 +9,6 @@ pub mod LawTerms
 pub mod Limited
 pub mod Lists
 pub mod ReadBack
+pub mod Told
 pub mod Twice
 pub mod Unnumbered

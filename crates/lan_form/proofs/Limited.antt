@@ -11,7 +11,7 @@ use Rattle.lan_form.proofs.Depths.{columns_are, all_depths_are}
 use Rattle.lan_form.proofs.Few.{few_fields}
 use Rattle.lan_form.proofs.Formed.{AreGood, limits_ok}
 
-pub fields_are_few : (fs : List Field) → AreGood (map column_of fs) → within (map column_of fs) ≡ Ok (map column_of fs) → all_in (plain_fields fs) < 2 ^ 32
+pub fields_are_few : (fs : List Field) → AreGood (map column_of fs) → within (map column_of fs) ≡ Ok (map column_of fs) → all_in (plain_fields fs) < 2 ^ 31
 fields_are_few fs good is =
     let same = columns_are fs in
     let limits = limits_ok (map column_of fs) is in

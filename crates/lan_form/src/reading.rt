@@ -8,7 +8,9 @@ ghost use Rattle.lan_model.specs.PlainTable.{column_of};
 ghost use Rattle.lan_model.specs.Table.{AreColumns};
 ghost use Rattle.lan_form.specs.declared.faults.FormFault.TheVariants.{Form};
 ghost use Rattle.lan_schema.specs.Logical.{leaf_type};
+ghost use Rattle.lan_schema.specs.Written.{CanTell, CanTellAll};
 ghost use Rattle.lan_form.specs.Form.{known, typed, field_form, item_form, fields_form, list_form, form, form_of_field};
+ghost use Rattle.lan_form.specs.Names.{HasTextNames, HasTextsInside, HaveTextNames};
 ghost use Rattle.lan_form.specs.Numbers.{CountsFrom, CountFrom, FieldCounted, TypeCounted, AllCounted};
 
 use crate::faults::FormFault;
@@ -31,6 +33,7 @@ use std::slice;
 pub fn from_json(alloc: Global, text: &str) -> Result<FieldList, FormFault>
     ensures fields { IfOk result (λ fs. form text.now ≡ Ok (map column_of fs)) }
     ensures ids { IfOk result (λ fs. CountFrom 0 (plain_fields fs)) }
+    ensures told { IfOk result (λ fs. CanTellAll (plain_fields fs)) }
     ensures columns { IfOk result (λ fs. AreColumns (map column_of fs)) }
     ensures fault { IfErr result (λ e. (e ≡ FormFault.Memory) ⊎ (form text.now ≡ Err e)) }
 {
@@ -46,6 +49,7 @@ pub fn from_json(alloc: Global, text: &str) -> Result<FieldList, FormFault>
 pub fn field_from_json(alloc: Global, text: &str) -> Result<Field, FormFault>
     ensures field { IfOk result (λ f. form_of_field text.now ≡ Ok (column_of f)) }
     ensures ids { IfOk result (λ f. CountsFrom 0 (plain_field f)) }
+    ensures told { IfOk result (λ f. CanTell (plain_field f)) }
     ensures columns { IfOk result (λ f. AreColumns (column_of f ∷ [])) }
     ensures fault { IfErr result (λ e. (e ≡ FormFault.Memory) ⊎ (form_of_field text.now ≡ Err e)) }
 {
@@ -71,6 +75,7 @@ fn read_value(alloc: Global, text: &str) -> Result<Value, FormFault>
 fn read_list(alloc: Global, value: &Value, next: &mut u32) -> Result<FieldList, FormFault>
     ensures ok { IfOk result (λ fs. list_form (view value.now) ≡ Ok (map column_of fs)) }
     ensures ids { IfOk result (λ fs. AllCounted next.old (plain_fields fs) next.new) }
+    ensures texts { IfOk result (λ fs. HaveTextNames (plain_fields fs)) }
     ensures err { IfErr result (λ e. (e ≡ FormFault.Memory) ⊎ (list_form (view value.now) ≡ Err e)) }
 {
     let Some(items) = value.as_array() else {
@@ -92,19 +97,20 @@ fn read_list(alloc: Global, value: &Value, next: &mut u32) -> Result<FieldList, 
 fn read_field(alloc: Global, value: &Value, next: &mut u32) -> Result<Field, FormFault>
     ensures ok { IfOk result (λ f. field_form (view value.now) ≡ Ok (column_of f)) }
     ensures ids { IfOk result (λ f. FieldCounted next.old (plain_field f) next.new) }
+    ensures texts { IfOk result (λ f. HasTextNames (plain_field f)) }
     ensures err { IfErr result (λ e. (e ≡ FormFault.Memory) ⊎ (field_form (view value.now) ≡ Err e)) }
 {
     let Some(members) = value.as_object() else {
         return Err(FormFault::Form);
     };
     let label = read_label(value, members)?;
-    if label.name.is_empty() {
+    let name = Text::of(alloc, label.name)?;
+    if name.as_str().is_empty() {
         return Err(FormFault::NoName);
     }
     let id = *next;
     *next = id.wrapping_add(1);
     let ty = read_type(alloc, value, members, label.kind, next)?;
-    let name = Text::of(alloc, label.name)?;
     Ok(Field {
         id,
         name,
@@ -124,6 +130,7 @@ fn read_type(
     requires { view value.now ≡ object (members_view members.now.entries) }
     ensures ok { IfOk result (λ t. typed kind.now (item_form (members_view members.now.entries)) (fields_form (members_view members.now.entries)) ≡ Ok (type_unnumbered (plain_type t))) }
     ensures ids { IfOk result (λ t. TypeCounted next.old (plain_type t) next.new) }
+    ensures texts { IfOk result (λ t. HasTextsInside (plain_type t)) }
     ensures err { IfErr result (λ e. (e ≡ FormFault.Memory) ⊎ (typed kind.now (item_form (members_view members.now.entries)) (fields_form (members_view members.now.entries)) ≡ Err e)) }
 {
     match kind {
@@ -148,6 +155,7 @@ fn read_type(
 fn known(alloc: Global, kind: &str) -> Result<Ty, FormFault>
     ensures ok { IfOk result (λ t. known kind.now (leaf_type kind.now) ≡ Ok (type_unnumbered (plain_type t))) }
     ensures ids { IfOk result (λ t. (n : ℕ) → TypeCounted n (plain_type t) n) }
+    ensures texts { IfOk result (λ t. HasTextsInside (plain_type t)) }
     ensures err { IfErr result (λ e. (e ≡ FormFault.Memory) ⊎ (known kind.now (leaf_type kind.now) ≡ Err e)) }
 {
     match leaf_type(kind) {

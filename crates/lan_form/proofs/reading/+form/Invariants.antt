@@ -5,6 +5,7 @@ use Rattle.lan_model.specs.Plain.{plain_fields}
 use Rattle.lan_model.specs.PlainTable.{column_of}
 use Rattle.lan_form.specs.Form.{each_form}
 use Rattle.lan_form.specs.Judged.{on_good}
+use Rattle.lan_form.specs.Names.{HaveTextNames}
 use Rattle.lan_form.specs.Numbers.{AllCounted}
 use Rattle.lan_form.proofs.reading.+form.Given as goal
 
@@ -21,4 +22,5 @@ abbrev pub invariant-read_list-loop-item : goal.invariant-read_list-loop-item
 invariant-read_list-loop-item l = record {
   form : each_form (items_view l.item-items) ≡ on_good (λ fs. map column_of l.fields ++ fs) (each_form (items_view (drop l.item-index l.item-items)));
   ids : AllCounted l.initial.next (plain_fields l.fields) l.next;
+  texts : HaveTextNames (plain_fields l.fields);
 }

@@ -1,5 +1,5 @@
 -- The pages of a file's column lie in the object, and have the column's slots.
-use Rattle.std.proofs.Common.{◌≡◌, sym, ◌∙◌, ap, refl, subst, ℕ, ◌+◌, ◌≤◌, List, [], ◌∷◌, length, arith}
+use Rattle.std.proofs.Common.{◌≡◌, sym, ◌∙◌, subst, ℕ, ◌≤◌, List, [], ◌∷◌, length, arith}
 use Rattle.std.specs.Prelude.{All, Option, Some}
 use Rattle.std.proofs.lemmas.List.Elements.{All-cons, All-head, All-nil, All-tail}
 use Rattle.lan_bytes.specs.Placed.{Placed}
@@ -12,7 +12,7 @@ use Rattle.lan_meta.specs.declared.page.PageMeta.{PageMeta}
 use Rattle.lan_meta.specs.Columns.{ColumnOf, StandsForPage}
 use Rattle.lan_meta.specs.PageRules.{EndBefore}
 use Rattle.lan_page.specs.Columns.{HoldsPages}
-use Rattle.lan_page.specs.Held.{HasBuffers, HoldsPage, held_buffers}
+use Rattle.lan_page.specs.Held.{HasBuffers, held_buffers}
 use Rattle.lan_file.specs.FileOf.{PagesStand}
 use Rattle.lan_file.specs.Heads.{HasHead, IsThere, LiesRight, Pick}
 use Rattle.lan_file.specs.Parts.{footer_of}

@@ -6,6 +6,7 @@ pub mod HeldColumns
 pub mod JoinedRows
 pub mod KeptTables
 pub mod LawTerms
+pub mod LeafReasons
 pub mod LeafTops
 pub mod Monotone
 pub mod Newest

@@ -7,7 +7,7 @@ use Rattle.lan_model.specs.Leaves.{PlainLeaf, leaves_of}
 use Rattle.lan_model.specs.Plain.{PlainField, PlainValue, null, fields_from}
 use Rattle.lan_model.specs.Table.{AreFields, IsField, Table}
 use Rattle.lan_levels.specs.Joins.{HaveSlots, IsJoin}
-use Rattle.lan_levels.specs.PlainSlots.{PlainSlot, plain_slots}
+use Rattle.lan_levels.specs.PlainSlots.{plain_slots}
 use Rattle.lan_levels.specs.SlotsOf.{leaf_slots, lists_in}
 use Rattle.lan_levels.specs.ZipRows.{slots_of_rows}
 use Rattle.lan_levels.specs.declared.join.Join.{Join}

@@ -5,9 +5,9 @@ use Rattle.std.proofs.lemmas.Bool.Decides.{eqb_tells}
 use Rattle.std.proofs.lemmas.List.{append-nil, get_or-map, length-map}
 use Rattle.std.proofs.lemmas.List.Elements.{All-head, All-tail}
 use Rattle.std.proofs.Math.Seq.{drop-append_seam, take-append_seam}
-use Rattle.lan_model.specs.Leaves.{PlainLeaf, leaves_of}
+use Rattle.lan_model.specs.Leaves.{leaves_of}
 use Rattle.lan_model.specs.Plain.{PlainField, PlainValue, values_from}
-use Rattle.lan_model.specs.Fits.{Fits, AllFit}
+use Rattle.lan_model.specs.Fits.{AllFit}
 use Rattle.lan_levels.specs.PlainSlots.{PlainSlot}
 use Rattle.lan_levels.specs.SlotsOf.{leaf_slots, lists_in}
 use Rattle.lan_levels.specs.ZipRows.{slots_before, slots_of_rows}

@@ -5,10 +5,12 @@ ghost use Rattle.std.specs.Prelude.{◌≡◌, ◌≢◌, ◌-◌, ◌<◌, ◌+
 ghost use Rattle.lan_model.specs.After.{each_with, without};
 ghost use Rattle.lan_model.specs.Dataset.{Dataset, with_version};
 ghost use Rattle.lan_model.specs.Fits.{AllFit, Fits};
+ghost use Rattle.lan_model.specs.Leaves.{leaves_of};
 ghost use Rattle.lan_bytes.specs.Placed.{Placed};
 ghost use Rattle.lan_model.specs.Plain.{PlainField, PlainValue, null, fields_from, unnumbered, values_from};
 ghost use Rattle.lan_model.specs.Table.{AreFields, FitsRow, IsField, Table};
 ghost use Rattle.lan_levels.specs.declared.join.Join.{Join};
+ghost use Rattle.lan_page.specs.declared.fault.PageReason.{PageReason};
 ghost use Rattle.lan_store.specs.declared.name.Name.{Name};
 ghost use Rattle.lan_store.specs.declared.name.Object.{Object};
 ghost use Rattle.lan_read.specs.declared.fault.PlainReason.{PlainReason};
@@ -22,7 +24,7 @@ ghost use Rattle.lan_manifest.specs.Reads.{ManifestAt};
 ghost use Rattle.lan_manifest.specs.Stage.{IsOneColumn, IsOneFile};
 ghost use Rattle.lan_manifest.specs.Versions.{AreListed, IsNewest, NoneListed};
 ghost use Rattle.lan_read.specs.Changes.{AddsFile, AddToEach, GivesNone, new_fragment, with_file};
-ghost use Rattle.lan_read.specs.FieldReaders.{RowHasNoValue};
+ghost use Rattle.lan_read.specs.FieldReaders.{LeafReasonStands, RowHasNoValue};
 ghost use Rattle.lan_read.specs.Given.{AreWhole, IsWhole, NoneGiven};
 ghost use Rattle.lan_read.specs.Joined.{FieldJoins, FragmentJoins, RowJoins};
 ghost use Rattle.lan_read.specs.Listings.{IsFileOfRows, all_listings, file_of_fields, ids_in, rows_of_one};
@@ -194,4 +196,15 @@ pub fn rows_without_a_value_refute()
 pub fn refused_manifests_are_none()
     ensures manifest { (objects : List Object) (version : ℕ) (name : Name) (why : Reason) (place : ℕ) (m : PlainManifest) → ManifestReasonStands objects version name why place → HasManifest objects version m → ⊥ }
     ensures table { (objects : List Object) (version : ℕ) (name : Name) (why : Reason) (place : ℕ) (t : Table) → ManifestReasonStands objects version name why place → StandsFor objects version t → ⊥ }
+{}
+
+/// Where a column of the files isn't held as its head says, they have no such rows: the fragment gives none, and
+/// the version stands for no table.
+pub fn columns_not_held_refute()
+    ensures rows { (objects : List Object) (fields : List (PlainField ℕ)) (files : List DataFile) (count : ℕ) (rows : List (List PlainValue)) (top : ℕ) (f : PlainField ℕ) (name : Name) (why : PageReason) (place : ℕ) → slice_get fields top ≡ Some f
+        → LeafReasonStands objects files count (leaves_of f 0 []) name why place → PhysicalRows objects fields files count rows → ⊥ }
+    ensures fragment { (objects : List Object) (fields : List (PlainField ℕ)) (fragment : Fragment) (kept : List (List PlainValue)) (top : ℕ) (f : PlainField ℕ) (name : Name) (why : PageReason) (place : ℕ) → slice_get fields top ≡ Some f
+        → LeafReasonStands objects fragment.files fragment.rows (leaves_of f 0 []) name why place → FragmentGives objects fields fragment kept → ⊥ }
+    ensures table { (objects : List Object) (version : ℕ) (t : Table) (m : PlainManifest) (fragment : Fragment) (top : ℕ) (f : PlainField ℕ) (name : Name) (why : PageReason) (place : ℕ) → HasManifest objects version m → Contains m.fragments fragment → slice_get m.fields top ≡ Some f
+        → LeafReasonStands objects fragment.files fragment.rows (leaves_of f 0 []) name why place → StandsFor objects version t → ⊥ }
 {}

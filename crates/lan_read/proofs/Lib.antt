@@ -20,5 +20,6 @@ pub mod RowRuns
 pub mod RowsInColumns
 pub mod SeekEach
 pub mod SingleTable
+pub mod ValuesDue
 pub mod WholeFields
 pub mod WrittenFiles

@@ -1,5 +1,5 @@
 -- From what the cursors of a field's leaves have at hand to the value of the row, or to why there is none.
-use Rattle.std.proofs.Common.{◌≡◌, inl, inr, sym, ◌∙◌, ap, refl, subst, Bool, ℕ, zero, suc, ◌+◌, ◌<◌, ◌≤◌, List, [], ◌∷◌, ◌++◌, length, get_or, map, take, drop, arith}
+use Rattle.std.proofs.Common.{◌≡◌, inl, inr, sym, ◌∙◌, ap, refl, subst, Bool, ℕ, zero, suc, ◌+◌, ◌<◌, ◌≤◌, List, [], ◌∷◌, ◌++◌, length, get_or, map, arith}
 use Rattle.std.specs.Prelude.{All, Contains, OnOk, Option, Some, None, Result, Ok, Err, option_map, slice_get, ◌⊎◌}
 use Rattle.std.proofs.lemmas.List.{get_or-map, length-append, length-map}
 use Rattle.std.proofs.lemmas.List.Elements.{All-cons, All-head, All-nil, All-tail}
@@ -11,17 +11,16 @@ use Rattle.lan_model.specs.declared.tree.Layer.{Layer}
 use Rattle.lan_model.specs.declared.tree.Layer.TheVariants as layer
 use Rattle.lan_levels.specs.PlainSlots.{plain_slots}
 use Rattle.lan_levels.specs.declared.join.Join.{Join}
-use Rattle.lan_levels.specs.declared.join.Join.TheVariants as join
 use Rattle.lan_levels.specs.declared.slot.SlotRun.{SlotRun}
-use Rattle.lan_page.specs.ColumnCursors.{IsAt, PlainCursor, cursor_leaf, cursor_name, cursor_pages, next_row, seek_most}
+use Rattle.lan_page.specs.ColumnCursors.{IsAt, PlainCursor, cursor_leaf, cursor_name, cursor_pages, seek_most}
 use Rattle.lan_page.specs.Columns.{AreSlotsOfRow, ColumnReasonStands, rows_of}
 use Rattle.lan_page.specs.declared.fault.PageReason.{PageReason}
-use Rattle.lan_store.specs.Budget.{Budget, IsWithin, nothing, plus}
+use Rattle.lan_store.specs.Budget.{IsWithin, plus}
 use Rattle.lan_store.specs.declared.name.Name.{Name}
 use Rattle.lan_store.specs.declared.name.Object.{Object}
 use Rattle.lan_store.specs.Objects.{object}
 use Rattle.lan_manifest.specs.declared.manifest.DataFile.{DataFile}
-use Rattle.lan_read.specs.FieldReaders.{AnswersValue, AreRunsOfRow, CanRead, GiveLeaves, GivesLeaf, IsBlamed, IsValueOf, LeafReasonStands, MayAsk, ReadColumn, ReadsField, RefusesValue, RowHasNoValue, blamed, column_read, columns_read, cursors_most}
+use Rattle.lan_read.specs.FieldReaders.{AreRunsOfRow, CanRead, GiveLeaves, GivesLeaf, IsValueOf, MayAsk, ReadColumn, ReadsField, RefusesValue, blamed, column_read, columns_read, cursors_most}
 use Rattle.lan_read.specs.Given.{NoneGiven}
 use Rattle.lan_read.specs.Joining.{AreJoined, AreLent, IsLent, IsPlaceOf, KnowsIn, NoneJoined, RefusesOne, RefusesSeek}
 use Rattle.lan_read.specs.declared.read_fault.Reason.TheVariants as reason

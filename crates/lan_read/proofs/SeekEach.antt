@@ -1,16 +1,15 @@
 -- Each of several cursors is brought to a row, one after another.
-use Rattle.std.proofs.Common.{◌≡◌, inl, inr, sym, ◌∙◌, ap, refl, subst, ℕ, zero, suc, ◌+◌, ◌<◌, ◌≤◌, List, [], ◌∷◌, ◌++◌, length, get_or, map, take, drop, arith}
+use Rattle.std.proofs.Common.{◌≡◌, sym, ◌∙◌, ap, refl, subst, ℕ, zero, suc, ◌+◌, ◌<◌, ◌≤◌, List, [], ◌∷◌, ◌++◌, length, take, drop, arith}
 use Rattle.std.specs.Prelude.{All, Some, slice_get}
 use Rattle.std.proofs.Math.ListN.{set}
 use Rattle.std.proofs.Math.Seq.{map-set_same}
-use Rattle.std.proofs.lemmas.List.{length-map, take-append-drop, take_all, take_more, take_more_set}
+use Rattle.std.proofs.lemmas.List.{take-append-drop, take_all, take_more, take_more_set}
 use Rattle.std.proofs.lemmas.List.Elements.{All-append, All-cons, All-nil}
-use Rattle.std.proofs.lemmas.Option.{get_or_from_slice_get, slice_get-map, slice_get_within}
+use Rattle.std.proofs.lemmas.Option.{get_or_from_slice_get, slice_get_within}
 use Rattle.lan_model.specs.Leaves.{plain_leaf}
 use Rattle.lan_page.specs.ColumnCursors.{PlainCursor, ReadsSame, seek_most}
-use Rattle.lan_store.specs.Budget.{Budget, IsWithin, plus}
+use Rattle.lan_store.specs.Budget.{IsWithin, plus}
 use Rattle.lan_read.specs.FieldReaders.{column_read, columns_read, cursors_most}
-use Rattle.lan_read.specs.Joining.{IsPlaceOf}
 use Rattle.lan_read.proofs.ReadValues.{most_front, most_more}
 
 first_left : {X : Type 0} (xs : List X) (i : ℕ) → slice_get (drop i xs) 0 ≡ slice_get xs i

@@ -1,17 +1,18 @@
 -- Reading a field row by row: by which columns of which files, and what is answered.
-use Rattle.std.specs.Prelude.{◌≡◌, ◌≢◌, ◌⊎◌, ⊤, ℕ, ◌<◌, ◌≤◌, List, [], ◌∷◌, length, map, All, Contains, Option, Some, None, Result, Ok, Err, get_or, slice_get}
+use Rattle.std.specs.Prelude.{◌≡◌, ◌≢◌, ◌⊎◌, ⊤, ℕ, ◌<◌, ◌≤◌, List, [], ◌∷◌, map, All, Contains, Option, Some, None, Result, Ok, Err, get_or, slice_get}
 use Rattle.lan_model.specs.Fits.{Fits}
 use Rattle.lan_model.specs.Leaves.{PlainLeaf, leaves_of}
 use Rattle.lan_model.specs.Plain.{PlainField, PlainValue, null, plain_value}
 use Rattle.lan_model.specs.declared.tree.Val.{Val}
 use Rattle.lan_levels.specs.Joins.{JoinCause}
-use Rattle.lan_levels.specs.PlainSlots.{plain_slots}
+use Rattle.lan_levels.specs.PlainSlots.{PlainSlot, plain_slots}
 use Rattle.lan_levels.specs.declared.join.Join.{Join}
 use Rattle.lan_levels.specs.declared.join.Join.TheVariants as join
 use Rattle.lan_levels.specs.declared.slot.SlotRun.{SlotRun}
 use Rattle.lan_meta.specs.declared.page.PageMeta.{PageMeta}
+use Rattle.lan_page.specs.ColumnBudgets.{still_due}
 use Rattle.lan_page.specs.ColumnCursors.{Knows, PlainCursor, cursor_leaf, cursor_name, cursor_pages, next_row, seek_most}
-use Rattle.lan_page.specs.Columns.{AreSlotsOfRow, ColumnReasonStands, rows_of}
+use Rattle.lan_page.specs.Columns.{AreSlotsOfRow, ColumnReasonStands, HoldsPages, rows_of}
 use Rattle.lan_page.specs.declared.fault.PageReason.{PageReason}
 use Rattle.lan_store.specs.Budget.{Budget, nothing, plus}
 use Rattle.lan_store.specs.declared.name.Name.{Name}
@@ -83,6 +84,23 @@ cursors_most (c ∷ cursors) row = plus (seek_most c row) (cursors_most cursors 
 abbrev pub value_most : Option (List PlainCursor) → ℕ → Budget
 value_most None row = nothing
 value_most (Some cursors) row = cursors_most cursors row
+
+-- the cursor's object holds its pages
+abbrev pub HoldsIn : List Object → PlainCursor → Type 0
+HoldsIn objects c = (slots : List PlainSlot) × HoldsPages (cursor_leaf c) (cursor_pages c) (object objects (cursor_name c)) slots
+
+abbrev pub ReaderHolds : List Object → Option (List PlainCursor) → Type 0
+ReaderHolds objects None = ⊤
+ReaderHolds objects (Some cursors) = All (HoldsIn objects) cursors
+
+-- what the cursors still ask for these rows
+abbrev pub cursors_due : List Object → List PlainCursor → List ℕ → Budget
+cursors_due objects [] rows = nothing
+cursors_due objects (c ∷ cursors) rows = plus (still_due c (object objects (cursor_name c)) rows) (cursors_due objects cursors rows)
+
+abbrev pub values_due : List Object → Option (List PlainCursor) → List ℕ → Budget
+values_due objects None rows = nothing
+values_due objects (Some cursors) rows = cursors_due objects cursors rows
 
 -- ---- why there is no value
 

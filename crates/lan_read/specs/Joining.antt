@@ -5,7 +5,7 @@ use Rattle.lan_levels.specs.Joins.{IsJoin, JoinCause}
 use Rattle.lan_levels.specs.PlainSlots.{plain_slots}
 use Rattle.lan_levels.specs.declared.join.Join.{Join}
 use Rattle.lan_levels.specs.declared.slot.SlotRun.{SlotRun}
-use Rattle.lan_page.specs.ColumnCursors.{IsAt, Knows, PlainCursor, cursor_leaf, cursor_name, cursor_pages, next_row}
+use Rattle.lan_page.specs.ColumnCursors.{Knows, PlainCursor, cursor_leaf, cursor_name, cursor_pages, next_row}
 use Rattle.lan_page.specs.Columns.{AreSlotsOfRow, ColumnReasonStands}
 use Rattle.lan_store.specs.declared.name.Object.{Object}
 use Rattle.lan_store.specs.Objects.{object}

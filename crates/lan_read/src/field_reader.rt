@@ -1,16 +1,19 @@
 // The values of a top field, row by row.
-ghost use Rattle.std.specs.Prelude.{◌≡◌, [], ℕ, ◌<◌, ◌≤◌, List as Sequence, All, None, Some, length, map, IfOk, IfErr, OnOk};
+ghost use Rattle.std.specs.Prelude.{◌≡◌, [], ◌∷◌, ℕ, ◌<◌, ◌≤◌, List as Sequence, All, None, Some, length, map, IfOk, IfErr, OnOk};
 ghost use Rattle.std.specs.Option.{ForSome};
 ghost use Rattle.lan_model.specs.Fits.{Fits};
 ghost use Rattle.lan_model.specs.Leaves.{leaves_of};
 ghost use Rattle.lan_model.specs.Plain.{plain_field, plain_value};
 ghost use Rattle.lan_model.specs.Table.{IsField, depths_of};
-ghost use Rattle.lan_page.specs.ColumnCursors.{ReadsSame, HasRow, IsAt, PlainCursor, cursor_leaf, seek_most};
+ghost use Rattle.lan_page.specs.ColumnBudgets.{still_due};
+ghost use Rattle.lan_page.specs.ColumnCursors.{ReadsSame, HasRow, IsAt, PlainCursor, cursor_leaf, cursor_name, seek_most};
+ghost use Rattle.lan_store.specs.Budget.{Spends, unless_refused};
+ghost use Rattle.lan_store.specs.Objects.{object};
 ghost use Rattle.lan_store.specs.Looked.{Looked};
 ghost use Rattle.lan_store.specs.declared.name.Object.{Object};
 ghost use Rattle.lan_manifest.specs.declared.manifest.DataFile.{DataFile};
 ghost use Rattle.lan_read.specs.Failures.{unread_failure};
-ghost use Rattle.lan_read.specs.FieldReaders.{AnswersValue, CanRead, MayAsk, ReaderKnows, ReadsField, blamed, columns_read, cursors_most, value_most};
+ghost use Rattle.lan_read.specs.FieldReaders.{AnswersValue, CanRead, HoldsIn, MayAsk, ReaderHolds, ReaderKnows, ReadsField, blamed, columns_read, cursors_due, cursors_most, value_most, values_due};
 ghost use Rattle.lan_read.specs.Joining.{AreJoined, AreLent, IsPlaceOf, IsUnjoined, KnowsIn, RefusesOne, RefusesSeek};
 
 use crate::read_fault::{ReadFault, Reason};
@@ -57,6 +60,7 @@ fn seek<S: Store>(
     ensures at { OnOk result (IsAt cursor.new row) }
     ensures knows { ForSome (S.tells store.new).objects (λ all. OnOk result (KnowsIn all cursor.new)) }
     ensures reason { ForSome (S.tells store.old).objects (λ all. IfErr result (RefusesSeek all cursor.old)) }
+    ensures spends { ForSome (S.tells store.old).objects (λ all. (later : Sequence ℕ) → HoldsIn all cursor.old → Spends (still_due cursor.old (object all (cursor_name cursor.old)) (row ∷ later)) (unless_refused result (still_due cursor.new (object all (cursor_name cursor.old)) later)) (S.tells store.old) (S.tells store.new)) }
 {
     match cursor.seek(alloc, store, row) {
         Ok(()) => Ok(()),
@@ -84,6 +88,7 @@ fn seek_each<S: Store>(
     ensures at { OnOk result (All (λ c. IsAt c row) cursors.new) }
     ensures knows { ForSome (S.tells store.new).objects (λ all. OnOk result (All (KnowsIn all) cursors.new)) }
     ensures reason { ForSome (S.tells store.old).objects (λ all. IfErr result (RefusesOne all cursors.old)) }
+    ensures spends { ForSome (S.tells store.old).objects (λ all. (later : Sequence ℕ) → All (HoldsIn all) cursors.old → Spends (cursors_due all cursors.old (row ∷ later)) (unless_refused result (cursors_due all cursors.new later)) (S.tells store.old) (S.tells store.new)) }
 {
     looks_add_up();
     for i in 0..cursors.len() {
@@ -163,6 +168,7 @@ fn joined<S: Store>(
     ensures at { OnOk result (All (λ c. IsAt c row) cursors.new) }
     ensures knows { ForSome (S.tells store.new).objects (λ all. OnOk result (All (KnowsIn all) cursors.new)) }
     ensures answer { ForSome (S.tells store.old).objects (λ all. (files : Sequence DataFile) (count : ℕ) → row < count → ReadsField all files count (plain_field field.now) (Some cursors.old) → AnswersValue all files count (plain_field field.now) row result) }
+    ensures spends { ForSome (S.tells store.old).objects (λ all. (later : Sequence ℕ) → All (HoldsIn all) cursors.old → Spends (cursors_due all cursors.old (row ∷ later)) (unless_refused result (cursors_due all cursors.new later)) (S.tells store.old) (S.tells store.new)) }
 {
     seek_each(alloc, store, cursors, row)?;
     match join_at_hand(alloc, field, cursors) {
@@ -234,6 +240,7 @@ impl FieldReader {
         ensures knows { ForSome (S.tells store.new).objects (λ all. OnOk result (ReaderKnows all self.new)) }
         ensures reads { OnOk result ((objects : Sequence Object) (files : Sequence DataFile) (count : ℕ) → ReadsField objects files count (plain_field field.now) self.old → ReadsField objects files count (plain_field field.now) self.new) }
         ensures answer { ForSome (S.tells store.old).objects (λ all. (files : Sequence DataFile) (count : ℕ) → row < count → ReadsField all files count (plain_field field.now) self.old → AnswersValue all files count (plain_field field.now) row result) }
+        ensures spends { ForSome (S.tells store.old).objects (λ all. (later : Sequence ℕ) → ReaderHolds all self.old → Spends (values_due all self.old (row ∷ later)) (unless_refused result (values_due all self.new later)) (S.tells store.old) (S.tells store.new)) }
     {
         looks_add_up();
         match &mut self.cursors {

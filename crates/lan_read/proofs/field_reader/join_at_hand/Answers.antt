@@ -1,4 +1,4 @@
-use Rattle.std.proofs.Common.{◌∙◌, ℕ, List, [], ap, arith, length, map, subst, sym}
+use Rattle.std.proofs.Common.{◌∙◌, ℕ, List, [], ap, arith, length, subst, sym}
 use Rattle.std.proofs.lemmas.List.{length-map}
 use Rattle.lan_model.specs.Leaves.{leaves_of}
 use Rattle.lan_model.specs.Plain.{plain_field}

@@ -1,13 +1,16 @@
-use Rattle.std.proofs.Common.{◌≡◌, ◌∙◌, ◌≤◌, ℕ, List, subst, sym}
+use Rattle.std.proofs.Common.{◌≡◌, ◌∙◌, ◌≤◌, ◌∷◌, ℕ, List, arith, subst, sym}
 use Rattle.std.specs.Prelude.{OnOk, Option, Result, Some, None, Ok}
 use Rattle.lan_model.specs.Plain.{plain_field}
 use Rattle.lan_model.specs.declared.tree.Val.{Val}
 use Rattle.lan_model.specs.declared.tree.Val.TheVariants.{Null}
 use Rattle.lan_levels.proofs.FieldViews.{plain_value-Null}
 use Rattle.lan_page.specs.ColumnCursors.{PlainCursor}
-use Rattle.lan_read.specs.FieldReaders.{AnswersValue, CanRead, IsValueOf, ReaderKnows, ReadsField}
+use Rattle.lan_store.specs.Budget.{Spends, nothing, unless_refused}
+use Rattle.lan_store.specs.Telling.{Telling}
+use Rattle.lan_read.specs.FieldReaders.{AnswersValue, CanRead, IsValueOf, ReaderHolds, ReaderKnows, ReadsField, values_due}
 use Rattle.lan_read.specs.declared.read_fault.ReadFault.{ReadFault}
 use Rattle.lan_read.proofs.ReadValues.{absent_read, can_later, on_ok, on_ok_both}
+use Rattle.lan_read.proofs.ValuesDue.{spends_not}
 use Rattle.lan_read.proofs.field_reader.FieldReader.value.Goals as goal
 use Rattle.lan_read.proofs.field_reader.FieldReader.value.Goals.{in-None, in-Some}
 
@@ -47,4 +50,30 @@ returns-clause-answer g c = λ all told files count below reads.
           let is : c.args.self.now ≡ Some w.in-Some.cursors = cc in
           let result : c.match-self.result ≡ w.joined.result = cc in
           subst (AnswersValue all files count f c.args.row) (sym result) (w.joined.ensures.answer all told files count below (subst (ReadsField all files count f) is reads))
+    ]
+
+pub returns-clause-spends : goal.returns-clause-spends
+returns-clause-spends g c = λ all told later holds.
+    let new : Option (List PlainCursor) = c.match-self.self-inside.cursors in
+    let Left : Option (List PlainCursor) → Option (List PlainCursor) → Result Val ReadFault → Telling → Type 0 = λ old new result now.
+    Spends (values_due all old (c.args.row ∷ later)) (unless_refused result (values_due all new later)) (g.S.Store.tells c.args.store.now) now
+    in
+    elim c.match-self.branch [
+      | in-None w ↦
+          let is : c.args.self.now ≡ None = cc in
+          let now : new ≡ None = cc in
+          let result : c.match-self.result ≡ Ok Null = cc in
+          let store : g.S.Store.tells c.match-self.store ≡ g.S.Store.tells c.args.store.now = cc in
+          rw (is, now, result, store) (spends_not nothing nothing (g.S.Store.tells c.args.store.now) (record { ranges = omega arith; bytes = omega arith }))
+      | in-Some w ↦
+          let is : c.args.self.now ≡ Some w.in-Some.cursors = cc in
+          let now : new ≡ Some w.joined.new.cursors = cc in
+          let result : c.match-self.result ≡ w.joined.result = cc in
+          let store : g.S.Store.tells c.match-self.store ≡ g.S.Store.tells w.joined.new.store = cc in
+          let spends = w.joined.ensures.spends all told later (subst (ReaderHolds all) is holds) in
+          let a : Left (Some w.in-Some.cursors) (Some w.joined.new.cursors) w.joined.result (g.S.Store.tells w.joined.new.store) = spends in
+          let b = subst (λ o. Left o (Some w.joined.new.cursors) w.joined.result (g.S.Store.tells w.joined.new.store)) (sym is) a in
+          let d = subst (λ o. Left c.args.self.now o w.joined.result (g.S.Store.tells w.joined.new.store)) (sym now) b in
+          let e = subst (λ r. Left c.args.self.now new r (g.S.Store.tells w.joined.new.store)) (sym result) d in
+          subst (Left c.args.self.now new c.match-self.result) (sym store) e
     ]

@@ -24,3 +24,9 @@ Makes objects (create fields) t = NoneListed objects × CanBeStored fields × (t
 Makes objects (append newest rows) t =
     (before : Table) × IsNewestManifest objects newest × StandsFor objects newest.version before × CanBeWritten newest.fields rows × (length rows < 2 ^ 31) × (t ≡ record before { rows = before.rows ++ rows })
 Makes objects (restore newest old) t = IsNewestManifest objects newest × HasManifest objects old.version old × StandsFor objects old.version t
+
+-- it comes after the newest version of the objects, and a create where there is none
+abbrev pub ComesAfter : List Object → Change → Type 0
+ComesAfter objects (create fields) = NoneListed objects
+ComesAfter objects (append newest rows) = IsNewestManifest objects newest
+ComesAfter objects (restore newest old) = IsNewestManifest objects newest

@@ -18,7 +18,7 @@ ghost use Rattle.lan_commit.specs.Change.{Change, manifest_after};
 ghost use Rattle.lan_commit.specs.ChangePuts as puts;
 ghost use Rattle.lan_commit.specs.Changes.{Base, puts_of, limit_of, IsBase, IsSound};
 ghost use Rattle.lan_commit.specs.First.{first_object};
-ghost use Rattle.lan_commit.specs.Makes.{CanBeStored, Makes};
+ghost use Rattle.lan_commit.specs.Makes.{CanBeStored, ComesAfter, Makes};
 ghost use Rattle.lan_commit.specs.Puts.{append_puts, limit_of_append};
 ghost use Rattle.lan_commit.specs.Stage.{IsMade};
 
@@ -63,7 +63,7 @@ pub fn changes_are_unseen_before()
 
 /// A change puts no object whose name is held.
 pub fn changes_meet_no_name()
-    ensures { (objects : List Object) (change : Change) (t : Table) (k : ℕ) → Makes objects change t → puts.limit_of objects change ≡ None → k < length (puts.puts_of objects change) → IsHeldAt k (puts.puts_of objects change) objects → ⊥ }
+    ensures { (objects : List Object) (change : Change) (k : ℕ) → ComesAfter objects change → puts.limit_of objects change ≡ None → k < length (puts.puts_of objects change) → IsHeldAt k (puts.puts_of objects change) objects → ⊥ }
 {}
 
 /// Fields of a table that are numbered depth first can be stored, where messages can tell them.

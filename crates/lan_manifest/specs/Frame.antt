@@ -1,5 +1,5 @@
 -- Where the message of a manifest lies in its object.
-use Rattle.std.specs.Prelude.{◌≡◌, ◌≢◌, ◌⊎◌, ℕ, ◌+◌, ◌-◌, ◌<◌, ◌≤◌, List, length, drop, codes}
+use Rattle.std.specs.Prelude.{◌≡◌, ℕ, ◌+◌, ◌-◌, ◌<◌, ◌≤◌, List, length, drop, codes}
 use Rattle.std.specs.Int.{w32, w64}
 use Rattle.lan_bytes.specs.Numbers.{number_at}
 use Rattle.lan_bytes.specs.Placed.{Placed, part_of}

@@ -9,8 +9,8 @@ ghost use Rattle.lan_levels.specs.ZipWritten.{CanStand};
 ghost use Rattle.lan_model.specs.Plain.{plain_type};
 ghost use Rattle.lan_meta.specs.ColumnWritten.{page_written, written};
 
-use crate::cutting::{lists, page_end, rows_in};
-use lan_levels::{Piece, Slot, SlotBuf, State, ValueKind, codes_of};
+use crate::cutting::{page_end, rows_in};
+use lan_levels::{Piece, Slot, SlotBuf, State, ValueKind, codes_of, lists_in};
 use lan_meta::{BuiltPage, BuiltPages, Layout};
 use lan_model::{Blob, Blobs, Leaf, Ty, width};
 use lan_zip::build_page;
@@ -103,7 +103,7 @@ fn constant_of(
     ensures { IfOk result (λ value. value ≡ constant_of (leaf_form (plain_leaf leaf.now)) (take (to - from) (drop from slots.now))) }
 {
     let first = slots.slot(from);
-    let lists = lists(leaf.layers.as_slice());
+    let lists = lists_in(leaf.layers.as_slice());
     if !is_constant(lists, first, slots, from + 1, to) {
         return Ok(None);
     }
@@ -139,7 +139,7 @@ fn page_of(
     ensures { IfOk result (λ page. page ≡ page_written (plain_leaf leaf.now) (take (to - from) (drop from slots.now))) }
 {
     let codes = codes_of(alloc, leaf)?;
-    let rows = rows_in(lists(leaf.layers.as_slice()), slots, from, to);
+    let rows = rows_in(lists_in(leaf.layers.as_slice()), slots, from, to);
     let count = to - from;
     let constant = constant_of(alloc, leaf, slots, from, to)?;
     match constant {

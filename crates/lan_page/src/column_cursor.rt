@@ -14,12 +14,11 @@ ghost use Rattle.lan_page.specs.Columns.{rows_of, HoldsPages, AreSlotsOfRow};
 ghost use Rattle.lan_page.specs.ColumnCursors.{cursor_name, cursor_leaf, cursor_pages, at_first, ReadsSame, next_row, reach, HasRow, IsAt, Knows, most_of, seek_most, RefusesColumn, LiesIn, BeginsAt, AnswersRows, StaysAt, StaysIn};
 ghost use Rattle.lan_page.specs.ColumnBudgets.{still_due, due_behind};
 
-use crate::cutting::lists;
 use crate::fault::PageFault;
 use crate::fetching::{fetch_index, fetch_piece};
 use crate::giving::piece_slots;
 use crate::piece_rows::PieceRows;
-use lan_levels::{SlotBuf, SlotRun};
+use lan_levels::{SlotBuf, SlotRun, lists_in};
 use lan_meta::{PageMeta, PageMetas};
 use lan_model::{Blob, Leaf, Text};
 use lan_store::laws::looks_add_up;
@@ -111,7 +110,7 @@ fn fetch_rows<S: Store>(
     let piece = fetch_piece(alloc, store, name, page, leaf, index, row, &mut bytes)?;
     let mut slots = SlotBuf::new(alloc);
     piece_slots(page, leaf, &piece, bytes.as_slice(), &mut slots)?;
-    let lists = lists(leaf.layers.as_slice());
+    let lists = lists_in(leaf.layers.as_slice());
     Ok(PieceRows::open(lists, row, piece.past, slots))
 }
 

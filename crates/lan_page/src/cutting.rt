@@ -8,29 +8,14 @@ ghost use Rattle.lan_levels.specs.SlotsOf.{lists_in};
 ghost use Rattle.lan_levels.specs.ZipForm.{value_form, kind_of, leaf_form};
 ghost use Rattle.lan_levels.specs.ZipSlots.{starts};
 
-use lan_levels::{Piece, Slot, SlotBuf, ValueForm, is_bare};
-use lan_model::{Layer, Leaf, Primitive, Ty, width};
+use lan_levels::{Piece, Slot, SlotBuf, ValueForm, is_bare, lists_in};
+use lan_model::{Leaf, Primitive, Ty, width};
 
 // A page with so many slots is long enough.
 const MOST_SLOTS: u64 = 32_768;
 
 // A page with so many bytes of values is long enough.
 const MOST_VALUES: u64 = 1 << 20;
-
-/// How many of the layers are lists.
-pub fn lists(layers: &[Layer]) -> u16
-    requires { length layers.now ≤ 16 }
-    ensures value { result ≡ lists_in layers.now }
-    ensures few { result ≤ 16 }
-{
-    let mut count = 0;
-    for layer in layers {
-        if let Layer::List { .. } = layer {
-            count += 1;
-        }
-    }
-    count
-}
 
 // How a value of the type stands in a slot.
 fn value_form(ty: &Ty) -> ValueForm
@@ -85,7 +70,7 @@ pub fn page_end(leaf: &Leaf, slots: &SlotBuf, from: u64) -> u64
     ensures within { result ≤ length slots.now }
     ensures cut { cut_pages (leaf_form (plain_leaf leaf.now)) (drop from slots.now) ≡ take (result - from) (drop from slots.now) ∷ cut_pages (leaf_form (plain_leaf leaf.now)) (drop result slots.now) }
 {
-    let lists = lists(leaf.layers.as_slice());
+    let lists = lists_in(leaf.layers.as_slice());
     let end = slots.len();
     let mut size = 0;
     for i in from..end {

@@ -20,7 +20,7 @@ loop-i-preserved c =
     let s = plain_slot c.slot-slot.result in
     let i = c.loop-i.i in
     let many = sym (ranged_length xs c.args.from i (omega arith) (omega arith)) in
-    let test = page_test f (range xs c.args.from i) s c.lists-lists.result _ c.loop-i.size c.ends_before.result (c.lists-lists.ensures.value ∙ ap lists_in c.as_slice.ensures) many c.loop-i.invariant.size c.ends_before.ensures ∙ c.if-ends_before.false in
+    let test = page_test f (range xs c.args.from i) s c.lists_in-lists.result _ c.loop-i.size c.ends_before.result (c.lists_in-lists.ensures.value ∙ ap lists_in c.as_slice.ensures) many c.loop-i.invariant.size c.ends_before.ensures ∙ c.if-ends_before.false in
     let value = c.slot_size.ensures in
     record {
       size = size_more f xs c.args.from i s c.loop-i.size c.min-size.result (omega arith) c.slot-slot.ensures c.loop-i.invariant.size (omega arith);
@@ -34,7 +34,7 @@ returns-then-ends_before-clause-cut c =
     let s = plain_slot c.slot-slot.result in
     let i = c.loop-i.i in
     let many = sym (ranged_length xs c.args.from i (omega arith) (omega arith)) in
-    let test = page_test f (range xs c.args.from i) s c.lists-lists.result _ c.loop-i.size c.ends_before.result (c.lists-lists.ensures.value ∙ ap lists_in c.as_slice.ensures) many c.loop-i.invariant.size c.ends_before.ensures ∙ c.if-ends_before.true in
+    let test = page_test f (range xs c.args.from i) s c.lists_in-lists.result _ c.loop-i.size c.ends_before.result (c.lists_in-lists.ensures.value ∙ ap lists_in c.as_slice.ensures) many c.loop-i.invariant.size c.ends_before.ensures ∙ c.if-ends_before.true in
     cut_ends f xs c.args.from i s c.slot-slot.ensures test c.loop-i.invariant.cut
 
 pub returns-clause-cut : goal.returns-clause-cut

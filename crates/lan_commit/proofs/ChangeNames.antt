@@ -6,7 +6,7 @@ use Rattle.lan_store.specs.Objects.{object}
 use Rattle.lan_store.specs.PutsAll.{IsHeldAt}
 use Rattle.lan_fresh.specs.Fresh.{fresh_file}
 use Rattle.lan_fresh.proofs.LawTerms.{fresh_is_free}
-use Rattle.lan_manifest.specs.Manifests.{manifest_object}
+use Rattle.lan_manifest.specs.Manifests.{PlainManifest, manifest_object}
 use Rattle.lan_manifest.specs.Versions.{IsListed, IsVersion, manifest_name}
 use Rattle.lan_commit.specs.Change.{Change, create, append, restore, manifest_after, next_of}
 use Rattle.lan_commit.specs.ChangePuts.{data_object, limit_of, puts_of}

@@ -1,5 +1,5 @@
 -- Where a reason stands in a page of a column, the column isn't held.
-use Rattle.std.proofs.Common.{◌≡◌, ℕ, zero, suc, ◌+◌, ◌-◌, ◌<◌, ◌≤◌, List, [], ◌∷◌, Option, length, refl, subst, arith}
+use Rattle.std.proofs.Common.{◌≡◌, ℕ, zero, suc, ◌-◌, ◌<◌, ◌≤◌, List, [], ◌∷◌, Option, refl, subst, arith}
 use Rattle.std.specs.Prelude.{All, Contains}
 use Rattle.lan_model.specs.Leaves.{PlainLeaf}
 use Rattle.lan_levels.specs.PlainSlots.{PlainSlot}
@@ -15,7 +15,7 @@ use Rattle.lan_meta.specs.PageKeeps.{KeepsRules}
 use Rattle.lan_meta.specs.PageOf.{page_form, LaidOut}
 use Rattle.lan_page.specs.declared.fault.PageReason.{PageReason}
 use Rattle.lan_page.specs.declared.fault.PageReason.TheVariants.{Missing, Short, Index, Content, Zip as ZipReason, Start, Rows}
-use Rattle.lan_page.specs.Columns.{HoldsPages, FailsPart, RowsReasonStands}
+use Rattle.lan_page.specs.Columns.{HoldsPages, RowsReasonStands}
 use Rattle.lan_page.specs.Giving.{FailsZip}
 use Rattle.lan_page.specs.Held.{bytes_held, held_buffers, held_run, first_of, HoldsPage}
 use Rattle.lan_page.specs.Laws.{ColumnsRefute}

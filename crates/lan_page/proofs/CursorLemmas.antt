@@ -1,6 +1,6 @@
 -- A reader of a column: what it asks, and what it lends.
-use Rattle.std.proofs.Common.{◌≡◌, ◌==◌, ℕ, zero, suc, ◌+◌, ◌-◌, ◌<◌, ◌≤◌, Bool, true, false, cond, List, [], ◌∷◌, Option, Some, None, is_some, Result, Ok, Err, inl, inr, length, take, drop, slice_get, refl, ap, ap₂, sym, subst, ◌∙◌, arith}
-use Rattle.std.specs.Prelude.{◌↔◌, IsTrue, All, Contains, IsSomeAnd, IfSome, IfErr}
+use Rattle.std.proofs.Common.{◌≡◌, ◌==◌, ℕ, ◌+◌, ◌-◌, ◌<◌, ◌≤◌, Bool, false, cond, List, ◌∷◌, Option, Some, None, is_some, Result, Ok, Err, inl, inr, drop, slice_get, refl, ap, ap₂, sym, subst, ◌∙◌, arith}
+use Rattle.std.specs.Prelude.{◌↔◌, IsTrue, Contains, IsSomeAnd, IfSome, IfErr}
 use Rattle.std.proofs.lemmas.Bool.{lt-ltb, le-ltb, eq-eqb, ne_eqb, cases_lt}
 use Rattle.lan_model.specs.declared.tree.Leaf.{Leaf}
 use Rattle.lan_model.specs.Leaves.{PlainLeaf, plain_leaf}
@@ -20,7 +20,7 @@ use Rattle.lan_page.specs.Asking.{AnswersOf, index_budget, content_budget, first
 use Rattle.lan_page.specs.Giving.{FailsZip, RefusesRows}
 use Rattle.lan_page.specs.Held.{held_buffers, held_run, first_of, HoldsPage}
 use Rattle.lan_page.specs.ColumnCursors.{PlainCursor, cursor_name, cursor_leaf, cursor_pages, row_at, next_row, reach, IsCursor, Knows, AreRowsOf, AnswersRows, most_of, seek_most, LiesIn, ReadsSame, RefusesPage, RefusesColumn}
-use Rattle.lan_page.specs.Columns.{rows_of, HoldsPages, AreSlotsOfRow}
+use Rattle.lan_page.specs.Columns.{AreSlotsOfRow}
 use Rattle.lan_page.specs.PieceRows.{PlainRows, slots_at_hand}
 use Rattle.lan_page.proofs.PageRows.{pages_from, page_of_column}
 use Rattle.lan_page.proofs.RowPlaces.{row_within}

@@ -1,5 +1,5 @@
 -- What a step of a reader of a column takes off what is still due.
-use Rattle.std.proofs.Common.{◌≡◌, ℕ, zero, suc, ◌+◌, ◌-◌, ◌<◌, ◌≤◌, Bool, true, false, ◌&&◌, cond, List, [], ◌∷◌, Option, Some, None, is_some, IsSome, Result, Ok, Err, OnOk, length, take, drop, slice_get, refl, ap, ap₂, sym, subst, ◌∙◌, arith}
+use Rattle.std.proofs.Common.{◌≡◌, ℕ, zero, suc, ◌+◌, ◌-◌, ◌<◌, ◌≤◌, Bool, true, false, ◌&&◌, cond, List, [], ◌∷◌, Option, Some, None, is_some, IsSome, Result, Ok, Err, OnOk, take, drop, slice_get, refl, ap, ap₂, sym, subst, ◌∙◌, arith}
 use Rattle.std.specs.Prelude.{nat_le, nat_lt, IsSomeAnd}
 use Rattle.std.proofs.lemmas.List.{drop-drop, drop-take, take-take}
 use Rattle.std.proofs.lemmas.Bool.{lt-ltb, le-leb, lt-leb}
@@ -48,12 +48,6 @@ row_test first rows row kept = refl
 
 pub same_within : (a : Budget) → IsWithin a a
 same_within a = record { ranges = omega arith; bytes = omega arith }
-
-pub within_then : (a b c : Budget) → IsWithin a b → IsWithin b c → IsWithin a c
-within_then a b c h k = let x = h.ranges in let y = h.bytes in let z = k.ranges in let w = k.bytes in record { ranges = omega arith; bytes = omega arith }
-
-beside : (a b c d : Budget) → IsWithin a b → IsWithin c d → IsWithin (plus a c) (plus b d)
-beside a b c d h k = let x = h.ranges in let y = h.bytes in let z = k.ranges in let w = k.bytes in record { ranges = omega arith; bytes = omega arith }
 
 behind : (a b c : Budget) → IsWithin a b → IsWithin a (plus c b)
 behind a b c h = let x = h.ranges in let y = h.bytes in record { ranges = omega arith; bytes = omega arith }

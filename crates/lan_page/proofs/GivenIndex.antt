@@ -23,7 +23,7 @@ use Rattle.lan_page.specs.declared.fault.PageFault.{PageFault}
 use Rattle.lan_page.specs.declared.fault.PageFault.TheVariants.{Outside, Store, Memory}
 use Rattle.lan_page.specs.declared.fault.PageReason.TheVariants.{Missing, Short, Index, Content, Zip as ZipReason, Start, Rows}
 use Rattle.lan_page.specs.declared.fetching.PiecePart.{PiecePart}
-use Rattle.lan_page.specs.Asking.{AnswersOf, FailsIndex, IsIndexOf, IsFullZip, FailsGiven, index_ranges, given_buffers, given_runs, given_run, first_len, content_budget, IsPiecePart, IsPieceOf, piece_budget, part_held, ReasonStands, RefusesPiece}
+use Rattle.lan_page.specs.Asking.{AnswersOf, FailsIndex, IsIndexOf, IsFullZip, FailsGiven, index_ranges, given_buffers, given_runs, given_run, first_len, content_budget, IsPiecePart, IsPieceOf, piece_budget, part_held, RefusesPiece}
 use Rattle.lan_page.specs.Cuts.{one_span}
 use Rattle.lan_page.specs.Held.{bytes_held, held_buffers, held_run, HoldsPage, first_of}
 use Rattle.lan_page.specs.Places.{range_stretch}

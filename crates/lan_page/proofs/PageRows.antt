@@ -1,9 +1,7 @@
 -- The rows of pages, and of the pages of a column.
-use Rattle.std.proofs.Common.{◌≡◌, ◌==◌, ℕ, zero, suc, ◌+◌, ◌-◌, ◌<◌, ◌≤◌, inl, inr, Bool, true, false, cond, List, [], ◌∷◌, ◌++◌, Option, Some, None, length, take, drop, get_or, replicate, slice_get, refl, ap, ap₂, sym, subst, ◌∙◌, arith}
-use Rattle.std.specs.Prelude.{All, Contains, IsSomeAnd, IfSome, nat_lt, sum_by}
-use Rattle.std.specs.Option.{ForSome}
-use Rattle.std.proofs.lemmas.Bool.{lt-ltb, le-ltb, eq-eqb, ne_eqb, cases_lt}
-use Rattle.std.proofs.lemmas.List.{drop_more, take_all}
+use Rattle.std.proofs.Common.{◌≡◌, ℕ, zero, suc, ◌+◌, ◌<◌, List, [], ◌∷◌, ◌++◌, Option, Some, None, length, take, drop, get_or, replicate, slice_get, refl, ap, ap₂, sym, subst, ◌∙◌, arith}
+use Rattle.std.specs.Prelude.{All, Contains}
+use Rattle.std.proofs.lemmas.List.{drop_more}
 use Rattle.std.proofs.lemmas.List.Sums.{sum_by-cons, sum_by_more}
 use Rattle.lan_model.specs.Leaves.{PlainLeaf}
 use Rattle.lan_levels.specs.declared.slot.State.{State}
@@ -13,10 +11,9 @@ use Rattle.lan_levels.specs.PlainSlots.{PlainPiece, nothing, PlainSlot}
 use Rattle.lan_levels.specs.SlotsOf.{lists_in, slot}
 use Rattle.lan_levels.specs.ZipForm.{PlainForm}
 use Rattle.lan_levels.specs.ZipRows.{slots_of_rows}
-use Rattle.lan_levels.specs.ZipSlots.{starts, FirstBegins, AreRows, IsZip}
+use Rattle.lan_levels.specs.ZipSlots.{FirstBegins, AreRows, IsZip}
 use Rattle.lan_levels.proofs.ZipSpelling.{parted}
 use Rattle.lan_index.proofs.RowSlots.{spelled_reps, starts_of, first_of}
-use Rattle.lan_store.specs.Budget.{Budget, nothing as no_budget, plus}
 use Rattle.lan_meta.specs.declared.page.Layout.{Layout}
 use Rattle.lan_meta.specs.declared.page.Layout.TheVariants.{Constant, Mini, Zip}
 use Rattle.lan_meta.specs.declared.page.PageMeta.{PageMeta}

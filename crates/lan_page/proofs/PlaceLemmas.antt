@@ -7,7 +7,7 @@ use Rattle.lan_model.specs.declared.range.Range.{Range}
 use Rattle.lan_levels.specs.Past.{most_bytes, is_short, past, furthest}
 use Rattle.lan_levels.specs.PlainSlots.{PlainSlot}
 use Rattle.lan_levels.specs.Runs.{run, IsIndex}
-use Rattle.lan_levels.specs.Stretch.{Stretch, size, bytes_in, cover}
+use Rattle.lan_levels.specs.Stretch.{size, bytes_in, cover}
 use Rattle.lan_index.proofs.PastLemmas.{past_found, within_longest, over_longest, cover_is}
 use Rattle.lan_index.proofs.RunLemmas.{rising, inside}
 use Rattle.lan_page.specs.declared.places.Known.{Known}

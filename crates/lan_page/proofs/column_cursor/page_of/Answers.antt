@@ -1,4 +1,4 @@
-use Rattle.std.proofs.Common.{◌≡◌, ◌==◌, ◌+◌, ◌-◌, ◌∙◌, Bool, false, cond, drop, sym, ap, arith}
+use Rattle.std.proofs.Common.{◌==◌, ◌+◌, ◌-◌, ◌∙◌, Bool, false, cond, drop, sym, ap, arith}
 use Rattle.lan_page.specs.ColumnCursors.{most_of}
 use Rattle.lan_page.proofs.CursorLemmas.{most_next, unknown_at}
 use Rattle.lan_page.proofs.PageRows.{rows_to}

@@ -3,7 +3,7 @@ use Rattle.lan_store.specs.Objects.{object}
 use Rattle.lan_page.specs.declared.cut.PieceCut.{PieceCut}
 use Rattle.lan_page.specs.Asking.{IfHeld, IsPieceOf}
 use Rattle.lan_page.proofs.ConstantPieces.{few_buffers}
-use Rattle.lan_page.proofs.GivenIndex.{index_given, held_part, piece_is, piece_asks, piece_bytes, fails_held, refuses_given, refuses_held}
+use Rattle.lan_page.proofs.GivenIndex.{index_given, held_part, piece_is, piece_asks, piece_bytes, fails_held, refuses_given}
 use Rattle.lan_page.proofs.fetching.zip_piece.Goals as goal
 
 pub returns-in-Err-clause-answer : goal.returns-in-Err-clause-answer

@@ -1,4 +1,4 @@
-use Rattle.std.proofs.Common.{◌≡◌, ◌+◌, ◌∙◌, sym, ap, arith}
+use Rattle.std.proofs.Common.{arith}
 use Rattle.lan_page.proofs.RowPlaces.{row_behind, begins_here, begins_later, none_behind}
 use Rattle.lan_page.proofs.piece_rows.row_end.Goals as goal
 

@@ -1,5 +1,5 @@
 -- The names of a change's objects aren't held.
-use Rattle.std.proofs.Common.{◌≡◌, subst, ℕ, zero, suc, ◌+◌, ◌<◌, List, [], ◌∷◌, ◌++◌, length, arith, append-nil}
+use Rattle.std.proofs.Common.{◌≡◌, subst, ℕ, zero, suc, ◌+◌, ◌^◌, ◌<◌, List, [], ◌∷◌, ◌++◌, length, arith, append-nil}
 use Rattle.std.specs.Prelude.{Option, None, IsSome}
 use Rattle.lan_store.specs.declared.name.Object.{Object}
 use Rattle.lan_store.specs.Objects.{object}
@@ -8,6 +8,7 @@ use Rattle.lan_fresh.specs.Fresh.{fresh_file}
 use Rattle.lan_fresh.proofs.LawTerms.{fresh_is_free}
 use Rattle.lan_manifest.specs.Manifests.{PlainManifest, manifest_object}
 use Rattle.lan_manifest.specs.Versions.{IsListed, IsVersion, manifest_name}
+use Rattle.lan_read.specs.Snapshots.{IsNewestManifest}
 use Rattle.lan_commit.specs.Change.{Change, create, append, restore, manifest_after, next_of}
 use Rattle.lan_commit.specs.ChangePuts.{data_object, limit_of, puts_of}
 use Rattle.lan_commit.specs.Limits.{bytes_limit}

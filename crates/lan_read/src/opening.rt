@@ -47,7 +47,11 @@ pub fn open_newest<S: Store>(alloc: Global, store: &mut S) -> Result<Manifest, P
 }
 
 // The manifest of a version.
-fn open_version<S: Store>(alloc: Global, store: &mut S, version: u64) -> Result<Manifest, PlainReadFault>
+fn open_version<S: Store>(
+    alloc: Global,
+    store: &mut S,
+    version: u64,
+) -> Result<Manifest, PlainReadFault>
     requires { IsVersion version }
     ensures looked { Looked (read_failure result) (ranges 1) (S.tells store.old) (S.tells store.new) }
     ensures opens { ForSome (S.tells store.old).objects (λ all. OpensVersion all version result) }
@@ -66,7 +70,12 @@ fn open_version<S: Store>(alloc: Global, store: &mut S, version: u64) -> Result<
 }
 
 // The manifest in an object.
-fn manifest_in(alloc: Global, bytes: Blob, version: u64, name: Name) -> Result<Manifest, PlainReadFault>
+fn manifest_in(
+    alloc: Global,
+    bytes: Blob,
+    version: u64,
+    name: Name,
+) -> Result<Manifest, PlainReadFault>
     requires { IsVersion version }
     ensures manifest { ManifestIn bytes version name result }
     ensures opened { IfOk result (λ m. IsOpened (plain_manifest m)) }

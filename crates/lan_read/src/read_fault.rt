@@ -38,7 +38,10 @@ pub enum ReadFault {
     /// No version is listed.
     NoDataset,
     /// The version that was asked for isn't listed; the newest is.
-    NoVersion { asked: u64, newest: u64 },
+    NoVersion {
+        asked: u64,
+        newest: u64,
+    },
     /// An object isn't what the version says: why, and where.
     Outside {
         object: Name,

@@ -7,7 +7,6 @@ use Rattle.std.proofs.lemmas.Bool.Decides.{eqb_tells}
 use Rattle.std.proofs.lemmas.List.{length-map}
 use Rattle.std.proofs.lemmas.List.Elements.{All-map}
 use Rattle.std.proofs.lemmas.List.Sums.{sum_by-le}
-use Rattle.std.proofs.lemmas.Option.{same_Some}
 use Rattle.lan_bytes.specs.Placed.{Placed}
 use Rattle.lan_model.specs.Table.{Table}
 use Rattle.lan_store.specs.declared.name.Name.{Name}
@@ -23,7 +22,7 @@ use Rattle.lan_manifest.specs.declared.manifest.Manifest.{Manifest}
 use Rattle.lan_manifest.specs.Frame.{FailsFrame, IsFramed, place_in}
 use Rattle.lan_manifest.specs.Versions.{IsVersion, manifest_name}
 use Rattle.lan_manifest.proofs.LawTerms.{object_refused}
-use Rattle.lan_read.specs.Opening.{IsAskedFor, fault_place, place_among, rows_in, ManifestReasonStands, Opens, OpensListed, ReadsBytes, StandsInHeld}
+use Rattle.lan_read.specs.Opening.{IsAskedFor, fault_place, place_among, rows_in, ManifestReasonStands, Opens, OpensListed, ReadsBytes, RefusesListing, StandsInHeld}
 use Rattle.lan_read.specs.Scanned.{deleted_in}
 use Rattle.lan_read.specs.Snapshots.{IsSnapshot}
 use Rattle.lan_read.specs.Tables.{HasManifest, StandsFor}
@@ -133,3 +132,11 @@ manifest_or_reason objects version name why place m reason has =
 
 pub table_or_reason : (objects : List Object) (version : ℕ) (name : Name) (why : Reason) (place : ℕ) (t : Table) → ManifestReasonStands objects version name why place → StandsFor objects version t → ⊥
 table_or_reason objects version name why place t reason stands = manifest_or_reason objects version name why place stands.manifest reason stands.has
+
+-- why no versions are listed is why none is opened
+pub unlisted : (all : List Object) (asked : Option ℕ) (fault : ReadFault) → RefusesListing all fault → Opens all asked (Err fault)
+unlisted all asked NoDataset refuses = refuses
+unlisted all asked (NoVersion version newest) refuses = absurd refuses
+unlisted all asked (Outside name why place) refuses = absurd refuses
+unlisted all asked (Store name) refuses = tt
+unlisted all asked Memory refuses = tt

@@ -8,11 +8,13 @@ pub mod Joined
 pub mod Joining
 pub mod Listings
 pub mod Newest
+pub mod Opened
 pub mod Opening
 pub mod Opens
 pub mod Reasons
 pub mod Rows
 pub mod Scanned
+pub mod Scans
 pub mod Snapshots
 pub mod Stage
 pub mod Standing

@@ -85,6 +85,13 @@ ReadsBytes version name bytes (Err (unread.Outside object why place)) = (object 
 ReadsBytes version name bytes (Err unread.Memory) = ⊤
 ReadsBytes version name bytes (Err fault) = ⊥
 
+-- why no versions are listed
+abbrev pub RefusesListing : List Object → ReadFault → Type 0
+RefusesListing objects unread.NoDataset = NoneListed objects
+RefusesListing objects (unread.Store name) = ⊤
+RefusesListing objects unread.Memory = ⊤
+RefusesListing objects fault = ⊥
+
 -- how many rows fragments have in all that aren't deleted
 abbrev pub rows_in : List Fragment → ℕ
 rows_in fragments = sum_by (λ (f : Fragment). f.rows - deleted_in f.deletion) fragments

@@ -10,12 +10,12 @@ use Rattle.lan_manifest.specs.declared.manifest.Fragment.{Fragment}
 use Rattle.lan_read.specs.Rows.{FragmentGives}
 
 -- a field before others, where there is one
-abbrev pub and_field : Option (PlainField ℕ) → List (PlainField ℕ) → List (PlainField ℕ)
+abbrev pub and_field : {I : Type 0} → Option (PlainField I) → List (PlainField I) → List (PlainField I)
 and_field None fields = fields
 and_field (Some f) fields = f ∷ fields
 
 -- the fields at these places, in the order in which they are asked
-abbrev pub fields_at : List (PlainField ℕ) → List ℕ → List (PlainField ℕ)
+abbrev pub fields_at : {I : Type 0} → List (PlainField I) → List ℕ → List (PlainField I)
 fields_at fields [] = []
 fields_at fields (place ∷ places) = and_field (slice_get fields place) (fields_at fields places)
 

@@ -1,37 +1,44 @@
 //! What holds of the tables that objects stand for, each law as the contract of a function with an empty
 //! body. A proof of another crate cites a law by its term in `proofs/LawTerms.antt`.
 
-ghost use Rattle.std.specs.Prelude.{◌≡◌, ◌≢◌, ◌-◌, ◌<◌, ◌++◌, [], ◌∷◌, ℕ, List, All, AllPairs, Contains, Some, get_or, length, map, remove, slice_get};
+ghost use Rattle.std.specs.Prelude.{◌≡◌, ◌≢◌, ◌-◌, ◌<◌, ◌++◌, [], ◌∷◌, ℕ, List, All, AllPairs, Contains, None, Some, get_or, length, map, remove, slice_get};
 ghost use Rattle.lan_model.specs.After.{each_with, without};
 ghost use Rattle.lan_model.specs.Dataset.{Dataset, with_version};
 ghost use Rattle.lan_model.specs.Fits.{AllFit, Fits};
 ghost use Rattle.lan_model.specs.Leaves.{leaves_of};
 ghost use Rattle.lan_bytes.specs.Placed.{Placed};
 ghost use Rattle.lan_model.specs.Plain.{PlainField, PlainValue, null, fields_from, unnumbered, values_from};
-ghost use Rattle.lan_model.specs.Table.{AreFields, FitsRow, IsField, Table};
+ghost use Rattle.lan_model.specs.Table.{AreColumns, AreFields, FitsRow, IsField, IsTable, Table};
+ghost use Rattle.lan_model.specs.Take.{scan_of};
 ghost use Rattle.lan_levels.specs.declared.join.Join.{Join};
 ghost use Rattle.lan_page.specs.declared.fault.PageReason.{PageReason};
+ghost use Rattle.lan_store.specs.Budget.{Budget};
 ghost use Rattle.lan_store.specs.declared.name.Name.{Name};
 ghost use Rattle.lan_store.specs.declared.name.Object.{Object};
 ghost use Rattle.lan_read.specs.declared.fault.PlainReason.{PlainReason};
+ghost use Rattle.lan_read.specs.declared.read_fault.ReadFault.TheVariants.{Outside};
 ghost use Rattle.lan_read.specs.declared.read_fault.Reason.{Reason};
 ghost use Rattle.lan_file.specs.Stage.{IsRequiredFixed};
 ghost use Rattle.lan_manifest.specs.declared.manifest.DataFile.{DataFile};
 ghost use Rattle.lan_manifest.specs.declared.manifest.Fragment.{Fragment};
 ghost use Rattle.lan_manifest.specs.ManifestObjects.{IsManifestObject};
-ghost use Rattle.lan_manifest.specs.Manifests.{PlainManifest};
+ghost use Rattle.lan_manifest.specs.declared.manifest.Manifest.{Manifest};
+ghost use Rattle.lan_manifest.specs.Manifests.{PlainManifest, plain_manifest};
 ghost use Rattle.lan_manifest.specs.Reads.{ManifestAt};
 ghost use Rattle.lan_manifest.specs.Stage.{IsOneColumn, IsOneFile};
 ghost use Rattle.lan_manifest.specs.Versions.{AreListed, IsNewest, NoneListed};
 ghost use Rattle.lan_read.specs.Changes.{AddsFile, AddToEach, GivesNone, new_fragment, with_file};
-ghost use Rattle.lan_read.specs.FieldReaders.{LeafReasonStands, RowHasNoValue};
+ghost use Rattle.lan_read.specs.FieldReaders.{LeafReasonStands, RefusesValue, RowHasNoValue};
 ghost use Rattle.lan_read.specs.Given.{AreWhole, IsWhole, NoneGiven};
 ghost use Rattle.lan_read.specs.Joined.{FieldJoins, FragmentJoins, RowJoins};
 ghost use Rattle.lan_read.specs.Listings.{IsFileOfRows, all_listings, file_of_fields, ids_in, rows_of_one};
 ghost use Rattle.lan_read.specs.Newest.{IsNewestOf};
+ghost use Rattle.lan_read.specs.Opened.{IsReadable, RefusesOpening};
 ghost use Rattle.lan_read.specs.Opening.{ManifestReasonStands};
 ghost use Rattle.lan_read.specs.Reasons.{Stands, StandsUnread};
 ghost use Rattle.lan_read.specs.Rows.{FragmentGives, FragmentsGive, IsHeld, PhysicalRows};
+ghost use Rattle.lan_read.specs.Scanned.{AreScanned, IsScanFront, fields_at};
+ghost use Rattle.lan_read.specs.Scans.{PlainScan, RefusesScan, ScanDue, scan_start};
 ghost use Rattle.lan_read.specs.Standing.{RowsOf, StandsAt, data_name};
 ghost use Rattle.lan_read.specs.Tables.{AgreesWith, HasManifest, StandsFor};
 
@@ -207,4 +214,50 @@ pub fn columns_not_held_refute()
         → LeafReasonStands objects fragment.files fragment.rows (leaves_of f 0 []) name why place → FragmentGives objects fields fragment kept → ⊥ }
     ensures table { (objects : List Object) (version : ℕ) (t : Table) (m : PlainManifest) (fragment : Fragment) (top : ℕ) (f : PlainField ℕ) (name : Name) (why : PageReason) (place : ℕ) → HasManifest objects version m → Contains m.fragments fragment → slice_get m.fields top ≡ Some f
         → LeafReasonStands objects fragment.files fragment.rows (leaves_of f 0 []) name why place → StandsFor objects version t → ⊥ }
+{}
+
+/// What scanning needs of a manifest: its fields may be a table's, no row is deleted, and the fields can be read in
+/// each fragment.
+pub fn manifests_can_be_read()
+    ensures columns { (object : Placed) (version : ℕ) (m : PlainManifest) → IsManifestObject object version m → AreColumns (map unnumbered m.fields) }
+    ensures undeleted { (object : Placed) (version : ℕ) (m : PlainManifest) → IsManifestObject object version m → All (λ (f : Fragment). f.deletion ≡ None) m.fragments }
+    ensures readable { (object : Placed) (version : ℕ) (m : PlainManifest) → IsManifestObject object version m → All (λ (f : Fragment). All (IsReadable f.files f.rows) m.fields) m.fragments }
+{}
+
+/// Where the fields can be read, so can those that are asked of them.
+pub fn asked_fields_can_be_read()
+    ensures { (files : List DataFile) (count : ℕ) (fields : List (PlainField ℕ)) (places : List ℕ) → All (IsReadable files count) fields → All (IsReadable files count) (fields_at fields places) }
+{}
+
+/// Where a reason stands by which a fragment isn't opened, or a value of it isn't read, it gives no rows; and where
+/// one stands by which a version's scan ends, the version stands for no table.
+pub fn scan_reasons_are_against_tables()
+    ensures opening { (objects : List Object) (fields : List (PlainField ℕ)) (places : List ℕ) (fragment : Fragment) (kept : List (List PlainValue)) (name : Name) (why : Reason) (place : ℕ) → RefusesOpening objects (fields_at fields places) fragment (Outside name why place)
+        → FragmentGives objects fields fragment kept → ⊥ }
+    ensures value { (objects : List Object) (fields : List (PlainField ℕ)) (places : List ℕ) (fragment : Fragment) (kept : List (List PlainValue)) (f : PlainField ℕ) (row : ℕ) (name : Name) (why : Reason) (place : ℕ) → AreFields (fields_from fields)
+        → Contains (fields_at fields places) f → RefusesValue objects fragment.files fragment.rows f row (Outside name why place) → FragmentGives objects fields fragment kept → ⊥ }
+    ensures table { (objects : List Object) (version : ℕ) (t : Table) (m : PlainManifest) (places : List ℕ) (name : Name) (why : Reason) (place : ℕ) → RefusesScan objects m places (Outside name why place) → HasManifest objects version m → StandsFor objects version t → ⊥ }
+{}
+
+/// All rows that a scan gives of a version's fragments are those of its table.
+pub fn scanned_rows_are_the_tables()
+    ensures { (objects : List Object) (version : ℕ) (t : Table) (m : PlainManifest) (places : List ℕ) (rows : List (List PlainValue)) → AreScanned objects m.fields places m.fragments rows → HasManifest objects version m → StandsFor objects version t → rows ≡ scan_of t places }
+{}
+
+/// And those that it gives first are the table's first ones.
+pub fn scan_fronts_are_fronts()
+    ensures { (objects : List Object) (version : ℕ) (t : Table) (m : PlainManifest) (places : List ℕ) (rows : List (List PlainValue)) → IsScanFront objects m places rows → HasManifest objects version m → StandsFor objects version t
+        → (later : List (List PlainValue)) × (scan_of t places ≡ rows ++ later) }
+{}
+
+/// What objects stand for at a version is a table: its columns are those of one, and its rows fit them.
+pub fn standing_rows_fit()
+    ensures { (objects : List Object) (version : ℕ) (t : Table) → StandsFor objects version t → IsTable t }
+{}
+
+/// Where the objects stand for a version's table, they hold all that its scan asks, whatever is asked of it; and
+/// what a scan still asks is one budget.
+pub fn standing_scans_have_a_budget()
+    ensures budget { (objects : List Object) (version : ℕ) (t : Table) (m : Manifest) (places : List ℕ) → HasManifest objects version (plain_manifest m) → StandsFor objects version t → (due : Budget) × ScanDue objects (scan_start m places) due }
+    ensures one { (objects : List Object) (s : PlainScan) (due other : Budget) → ScanDue objects s due → ScanDue objects s other → due ≡ other }
 {}

@@ -11,21 +11,21 @@ ghost use Rattle.lan_read.specs.Opening.{IsAskedFor, Opens, OpensListed, ReadsBy
 ghost use Rattle.lan_read.specs.Scanned.{deleted_in};
 ghost use Rattle.lan_read.specs.Snapshots.{IsSnapshot};
 ghost use Rattle.lan_read.specs.declared.read_fault.ReadFault.TheVariants.{Outside};
-ghost use Rattle.lan_store.specs.declared.name.Dir.TheVariants.{Versions};
 ghost use Rattle.lan_store.specs.declared.name.Object.{Object};
 ghost use Rattle.lan_store.specs.Budget.{ranges};
 ghost use Rattle.lan_store.specs.Looked.{Looked};
 
 use crate::object::{ObjectFault, read_object};
 use crate::read_fault::{ReadFault, Reason};
+use crate::versions::list_versions;
 use lan_bytes::View;
 use lan_manifest::{
-    Fragment, Manifest, ManifestFault, list_versions, message_place, name_of_version, read_manifest,
+    Fragment, Manifest, ManifestFault, message_place, name_of_version, read_manifest,
 };
-use lan_model::{Blob, FieldList, Text};
+use lan_model::{Blob, FieldList};
 use lan_schema::SchemaFault;
 use lan_store::laws::looks_add_up;
-use lan_store::{Dir, ListFault, Name, Store};
+use lan_store::{Name, Store};
 use std::alloc::Global;
 use std::marker::Model;
 
@@ -75,11 +75,7 @@ impl Snapshot {
         ensures opened { IfOk result (λ s. IsSnapshot (plain_manifest s)) }
     {
         looks_add_up();
-        let versions = match list_versions(alloc, store) {
-            Ok(versions) => versions,
-            Err(ListFault::Failed) => return Err(ReadFault::Store(versions_folder(alloc))),
-            Err(ListFault::Memory) => return Err(ReadFault::Memory),
-        };
+        let versions = list_versions(alloc, store)?;
         match choose(versions.as_slice(), version) {
             Ok(version) => open_listed(alloc, store, version),
             Err(fault) => Err(fault),
@@ -121,16 +117,6 @@ impl Snapshot {
         ensures opened { IsSnapshot (plain_manifest self) }
     {
         self.manifest
-    }
-}
-
-// The name at which listing the versions fails: that of no object in their folder.
-fn versions_folder(alloc: Global) -> Name
-    ensures { result ≡ record { dir = Versions; rest = [] } }
-{
-    Name {
-        dir: Dir::Versions,
-        rest: Text::new(alloc),
     }
 }
 

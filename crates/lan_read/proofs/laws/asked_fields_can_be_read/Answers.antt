@@ -1,0 +1,5 @@
+use Rattle.lan_read.proofs.ReadableFields.{readable_at}
+use Rattle.lan_read.proofs.laws.asked_fields_can_be_read.Goals as goal
+
+pub returns : goal.returns
+returns c = readable_at

@@ -10,7 +10,7 @@ pub use Rattle.lan_read.proofs.OneScanDue.{one_scan_due}
 pub use Rattle.lan_read.proofs.OneTable.{one_column, one_rows, manifest_one, table_one, stands_with, reason_or_table, unread_stands, unread_or_manifest}
 pub use Rattle.lan_read.proofs.OpenedVersions.{manifest_or_reason, table_or_reason}
 pub use Rattle.lan_read.proofs.PlainTables.{plain_rows_stand, plain_table_stands}
-pub use Rattle.lan_read.proofs.ReadableFields.{manifest_columns, manifest_readable, manifest_undeleted, readable_at}
+pub use Rattle.lan_read.proofs.ReadableFields.{columns_at, manifest_columns, manifest_readable, manifest_undeleted, readable_at}
 pub use Rattle.lan_read.proofs.RowRuns.{no_fragment, no_rows, no_table}
 pub use Rattle.lan_read.proofs.ScanBudgets.{scan_due}
 pub use Rattle.lan_read.proofs.ScanReasons.{no_scan_fragment, no_scan_table, no_scan_value}

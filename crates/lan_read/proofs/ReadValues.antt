@@ -9,18 +9,18 @@ use Rattle.lan_model.specs.Plain.{primitive, vector, text, bytes, list, struct, 
 use Rattle.lan_model.specs.Table.{AreFields, IsField, names_of}
 use Rattle.lan_model.specs.declared.tree.Layer.{Layer}
 use Rattle.lan_model.specs.declared.tree.Layer.TheVariants as layer
-use Rattle.lan_levels.specs.PlainSlots.{plain_slots}
+use Rattle.lan_levels.specs.PlainSlots.{PlainSlot, plain_slots}
 use Rattle.lan_levels.specs.declared.join.Join.{Join}
 use Rattle.lan_levels.specs.declared.slot.SlotRun.{SlotRun}
 use Rattle.lan_page.specs.ColumnCursors.{IsAt, PlainCursor, cursor_leaf, cursor_name, cursor_pages, seek_most}
-use Rattle.lan_page.specs.Columns.{AreSlotsOfRow, ColumnReasonStands, rows_of}
+use Rattle.lan_page.specs.Columns.{AreSlotsOfRow, ColumnReasonStands, HoldsPages, rows_of}
 use Rattle.lan_page.specs.declared.fault.PageReason.{PageReason}
 use Rattle.lan_store.specs.Budget.{IsWithin, plus}
 use Rattle.lan_store.specs.declared.name.Name.{Name}
 use Rattle.lan_store.specs.declared.name.Object.{Object}
 use Rattle.lan_store.specs.Objects.{object}
 use Rattle.lan_manifest.specs.declared.manifest.DataFile.{DataFile}
-use Rattle.lan_read.specs.FieldReaders.{AreRunsOfRow, CanRead, GiveLeaves, GivesLeaf, IsValueOf, MayAsk, ReadColumn, ReadsField, RefusesValue, blamed, column_read, columns_read, cursors_most}
+use Rattle.lan_read.specs.FieldReaders.{AreRunsOfRow, CanRead, GiveLeaves, GivesLeaf, HoldsIn, IsValueOf, MayAsk, ReadColumn, ReadsField, RefusesValue, blamed, column_read, columns_read, cursors_most}
 use Rattle.lan_read.specs.Given.{NoneGiven}
 use Rattle.lan_read.specs.Joining.{AreJoined, AreLent, IsLent, IsPlaceOf, KnowsIn, NoneJoined, RefusesOne, RefusesSeek}
 use Rattle.lan_read.specs.declared.read_fault.Reason.TheVariants as reason
@@ -113,6 +113,17 @@ may_later row later (d ∷ old) (c ∷ new) same le at may =
 
 pub can_later : (f : PlainField ℕ) (row later : ℕ) (old new : List PlainCursor) → columns_read new ≡ columns_read old → row ≤ later → All (λ c. IsAt c row) new → CanRead f later (Some old) → CanRead f later (Some new)
 can_later f row later old new same le at can = (same_ids old new same ∙ can.0, may_later row later old new same le at can.1)
+
+-- columns that are held still are
+pub holds_later : (objects : List Object) (old new : List PlainCursor) → columns_read new ≡ columns_read old → All (HoldsIn objects) old → All (HoldsIn objects) new
+holds_later objects [] [] same holds = All-nil (HoldsIn objects)
+holds_later objects [] (c ∷ new) same holds = absurd (cc same)
+holds_later objects (d ∷ old) [] same holds = absurd (cc same)
+holds_later objects (d ∷ old) (c ∷ new) same holds =
+    let first : column_read c ≡ column_read d = cc same in
+    let rest : columns_read new ≡ columns_read old = cc same in
+    let Holds : ReadColumn → Type 0 = λ column. (slots : List PlainSlot) × HoldsPages column.leaf column.pages (object objects column.name) slots in
+    All-cons (HoldsIn objects) c new (subst Holds (sym first) (All-head (HoldsIn objects) d old holds)) (holds_later objects old new rest (All-tail (HoldsIn objects) d old holds))
 
 -- ---- what is asked
 

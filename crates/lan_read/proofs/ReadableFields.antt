@@ -1,6 +1,6 @@
 -- What reading its rows needs of a manifest: no row is deleted, its fields may be a table's, and in each fragment the leaves of a top field are given
 -- all or none; where none is, null is a value of the field, or there is no row.
-use Rattle.std.proofs.Common.{◌≡◌, inl, inr, sym, ◌∙◌, ap, refl, ℕ, zero, suc, ◌<◌, Bool, true, false, not, List, [], ◌∷◌, ◌++◌, length, get_or, map, arith, subst}
+use Rattle.std.proofs.Common.{◌≡◌, inl, inr, sym, ◌∙◌, ap, ap₂, refl, ℕ, zero, suc, ◌<◌, Bool, true, false, not, List, [], ◌∷◌, ◌++◌, length, get_or, map, arith, subst}
 use Rattle.std.specs.Prelude.{◌&&◌, ◌||◌, ◌⊎◌, ◌≤◌, ℤ, pos, negsuc, All, Contains, flat_map, Option, Some, None, IsTrue, nat_eq, slice_get, slice_index_or, option_map}
 use Rattle.std.specs.List.{list_all, list_any}
 use Rattle.std.proofs.lemmas.Bool.{and_parts, cases_Bool, eqb-true, or_cases, or_parts, or_right, not-true, true≢false}
@@ -283,3 +283,13 @@ each_at P fields (place ∷ places) each =
 
 pub readable_at : (files : List DataFile) (count : ℕ) (fields : List (PlainField ℕ)) (places : List ℕ) → All (IsReadable files count) fields → All (IsReadable files count) (fields_at fields places)
 readable_at files count fields places = each_at (IsReadable files count) fields places
+
+-- the columns at places are those of the fields there
+columns_with : (o : Option (PlainField ℕ)) (fields : List (PlainField ℕ)) → and_field (option_map (unnumbered {I = ℕ}) o) (map unnumbered fields) ≡ map unnumbered (and_field o fields)
+columns_with None fields = refl
+columns_with (Some f) fields = refl
+
+pub columns_at : (fields : List (PlainField ℕ)) (places : List ℕ) → fields_at (map unnumbered fields) places ≡ map unnumbered (fields_at fields places)
+columns_at fields [] = refl
+columns_at fields (place ∷ places) =
+    ap₂ and_field (slice_get-map unnumbered fields place) (columns_at fields places) ∙ columns_with (slice_get fields place) (fields_at fields places)

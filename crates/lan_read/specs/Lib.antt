@@ -1,9 +1,11 @@
 pub mod Changes
 pub mod Cut
+pub mod Dealt
 pub mod Failures
 pub mod FieldReaders
 pub mod Fragments
 pub mod Given
+pub mod Grouped
 pub mod Joined
 pub mod Joining
 pub mod Listings
@@ -13,7 +15,9 @@ pub mod Opening
 pub mod Opens
 pub mod Reasons
 pub mod Rows
+pub mod RowValues
 pub mod Scanned
+pub mod Scanning
 pub mod Scans
 pub mod Snapshots
 pub mod Stage

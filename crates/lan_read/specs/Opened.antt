@@ -1,5 +1,5 @@
 -- The readers of a fragment's fields: of which columns, what opening them asks, and why they aren't opened.
-use Rattle.std.specs.Prelude.{◌≡◌, ◌≢◌, ◌⊎◌, ⊤, ℕ, ℤ, ◌*◌, ◌<◌, ◌≤◌, ◌^◌, Bool, false, not, ◌&&◌, ◌||◌, cond, bytes_eq, List, [], ◌∷◌, ◌++◌, length, map, All, Contains, Option, Some, None, IsSomeAnd, option_map, pos, negsuc}
+use Rattle.std.specs.Prelude.{◌≡◌, ◌≢◌, ◌⊎◌, ⊤, ℕ, ℤ, ◌*◌, ◌<◌, ◌≤◌, ◌^◌, Bool, false, not, ◌&&◌, ◌||◌, cond, bytes_eq, List, [], ◌∷◌, ◌++◌, length, All, Contains, Option, Some, None, IsSomeAnd, option_map, pos, negsuc}
 use Rattle.std.specs.Option.{option_or}
 use Rattle.lan_model.specs.Fits.{Fits}
 use Rattle.lan_model.specs.Leaves.{PlainLeaf, IsNarrow, leaves_of, plain_leaf}
@@ -18,7 +18,7 @@ use Rattle.lan_file.specs.HeadReasons.{HeadStands}
 use Rattle.lan_file.specs.Heads.{HasHead, Pick, head_budget}
 use Rattle.lan_manifest.specs.declared.manifest.DataFile.{DataFile}
 use Rattle.lan_manifest.specs.declared.manifest.Fragment.{Fragment}
-use Rattle.lan_read.specs.FieldReaders.{CanRead, ReaderKnows}
+use Rattle.lan_read.specs.FieldReaders.{CanRead}
 use Rattle.lan_read.specs.Given.{IsWhole, NoneGiven}
 use Rattle.lan_read.specs.Rows.{IsHeld}
 use Rattle.lan_read.specs.Standing.{data_name}

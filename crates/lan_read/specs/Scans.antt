@@ -1,8 +1,9 @@
 -- A scan of a version: where it stands, what it answers, and what it still asks.
-use Rattle.std.specs.Prelude.{◌≡◌, ◌⊎◌, ⊤, ℕ, ◌+◌, ◌*◌, ◌-◌, ◌<◌, ◌≤◌, Bool, false, cond, nat_lt, List, [], ◌∷◌, ◌++◌, length, map, take, drop, sum_by, All, Contains, Option, Some, None, IfSome, IsSomeAnd, MatchOption, Result, Ok, Err, slice_get}
+use Rattle.std.specs.Prelude.{◌≡◌, ◌⊎◌, ⊤, ℕ, ◌+◌, ◌*◌, ◌-◌, ◌<◌, ◌≤◌, Bool, false, cond, nat_lt, List, [], ◌∷◌, ◌++◌, length, map, take, drop, sum_by, All, Contains, Option, Some, None, IfSome, MatchOption, Result, Ok, Err, slice_get}
 use Rattle.std.specs.List.{range_with_len}
-use Rattle.lan_model.specs.Plain.{PlainField, PlainValue}
+use Rattle.lan_model.specs.Plain.{PlainField, PlainValue, plain_field}
 use Rattle.lan_model.specs.PlainTable.{row_of}
+use Rattle.lan_model.specs.declared.tree.Field.{Field}
 use Rattle.lan_model.specs.declared.tree.Val.{Val}
 use Rattle.lan_page.specs.ColumnCursors.{PlainCursor}
 use Rattle.lan_store.specs.Budget.{Budget, Spends, nothing, plus}
@@ -54,6 +55,11 @@ pub record IsScan (s : PlainScan) : Type 0 where
   pub places : All (λ place. place < length s.manifest.fields) s.places
   pub within : s.row ≤ rows_at_hand (fragment_at_hand s)
   pub readers : MatchOption s.readers (s.row ≡ 0) (CanReadFrom (asked_fields s) s.row (rows_at_hand (fragment_at_hand s)))
+
+-- and the fields are copies of those that are asked
+pub record ScansFields (fields : List Field) (s : PlainScan) : Type 0 where
+  pub scan : IsScan s
+  pub fields_are : map plain_field fields ≡ asked_fields s
 
 -- it reads the same
 pub record ScansSame (old new : PlainScan) : Type 0 where

@@ -1,5 +1,5 @@
 -- The manifests that are opened to be read from and to be changed.
-use Rattle.std.specs.Prelude.{◌≡◌, ℕ, List}
+use Rattle.std.specs.Prelude.{List}
 use Rattle.lan_bytes.specs.Placed.{Placed}
 use Rattle.lan_store.specs.declared.name.Object.{Object}
 use Rattle.lan_manifest.specs.ManifestObjects.{IsManifestObject}

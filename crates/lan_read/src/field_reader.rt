@@ -239,6 +239,7 @@ impl FieldReader {
         ensures can { OnOk result ((later : ℕ) → row ≤ later → CanRead (plain_field field.now) later self.old → CanRead (plain_field field.now) later self.new) }
         ensures knows { ForSome (S.tells store.new).objects (λ all. OnOk result (ReaderKnows all self.new)) }
         ensures reads { OnOk result ((objects : Sequence Object) (files : Sequence DataFile) (count : ℕ) → ReadsField objects files count (plain_field field.now) self.old → ReadsField objects files count (plain_field field.now) self.new) }
+        ensures holds { OnOk result ((objects : Sequence Object) → ReaderHolds objects self.old → ReaderHolds objects self.new) }
         ensures answer { ForSome (S.tells store.old).objects (λ all. (files : Sequence DataFile) (count : ℕ) → row < count → ReadsField all files count (plain_field field.now) self.old → AnswersValue all files count (plain_field field.now) row result) }
         ensures spends { ForSome (S.tells store.old).objects (λ all. (later : Sequence ℕ) → ReaderHolds all self.old → Spends (values_due all self.old (row ∷ later)) (unless_refused result (values_due all self.new later)) (S.tells store.old) (S.tells store.new)) }
     {

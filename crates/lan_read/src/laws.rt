@@ -224,9 +224,10 @@ pub fn manifests_can_be_read()
     ensures readable { (object : Placed) (version : ℕ) (m : PlainManifest) → IsManifestObject object version m → All (λ (f : Fragment). All (IsReadable f.files f.rows) m.fields) m.fragments }
 {}
 
-/// Where the fields can be read, so can those that are asked of them.
+/// Where the fields can be read, so can those that are asked of them; and these have the asked columns.
 pub fn asked_fields_can_be_read()
-    ensures { (files : List DataFile) (count : ℕ) (fields : List (PlainField ℕ)) (places : List ℕ) → All (IsReadable files count) fields → All (IsReadable files count) (fields_at fields places) }
+    ensures columns { (fields : List (PlainField ℕ)) (places : List ℕ) → fields_at (map unnumbered fields) places ≡ map unnumbered (fields_at fields places) }
+    ensures readable { (files : List DataFile) (count : ℕ) (fields : List (PlainField ℕ)) (places : List ℕ) → All (IsReadable files count) fields → All (IsReadable files count) (fields_at fields places) }
 {}
 
 /// Where a reason stands by which a fragment isn't opened, or a value of it isn't read, it gives no rows; and where

@@ -1,5 +1,6 @@
 use Rattle.std.proofs.Common.{◌≡◌, ◌∙◌, ◌≤◌, ◌∷◌, ℕ, List, arith, subst, sym}
 use Rattle.std.specs.Prelude.{OnOk, Option, Result, Some, None, Ok}
+use Rattle.std.proofs.lemmas.Result.{on_ok_weaker}
 use Rattle.lan_model.specs.Plain.{plain_field}
 use Rattle.lan_model.specs.declared.tree.Val.{Val}
 use Rattle.lan_model.specs.declared.tree.Val.TheVariants.{Null}
@@ -7,9 +8,10 @@ use Rattle.lan_levels.proofs.FieldViews.{plain_value-Null}
 use Rattle.lan_page.specs.ColumnCursors.{PlainCursor}
 use Rattle.lan_store.specs.Budget.{Spends, nothing, unless_refused}
 use Rattle.lan_store.specs.Telling.{Telling}
+use Rattle.lan_store.specs.declared.name.Object.{Object}
 use Rattle.lan_read.specs.FieldReaders.{AnswersValue, CanRead, IsValueOf, ReaderHolds, ReaderKnows, ReadsField, values_due}
 use Rattle.lan_read.specs.declared.read_fault.ReadFault.{ReadFault}
-use Rattle.lan_read.proofs.ReadValues.{absent_read, can_later, on_ok, on_ok_both}
+use Rattle.lan_read.proofs.ReadValues.{absent_read, can_later, holds_later, on_ok, on_ok_both}
 use Rattle.lan_read.proofs.ValuesDue.{spends_not}
 use Rattle.lan_read.proofs.field_reader.FieldReader.value.Goals as goal
 use Rattle.lan_read.proofs.field_reader.FieldReader.value.Goals.{in-None, in-Some}
@@ -35,6 +37,22 @@ returns-clause-can g c =
           let Later : Type 0 = (later : ℕ) → c.args.row ≤ later → CanRead f later c.args.self.now → CanRead f later new in
           subst (λ (r : Result Val ReadFault). OnOk r Later) (sym result) (on_ok_both w.joined.result w.joined.ensures.same w.joined.ensures.at (λ same at later le can.
           subst (CanRead f later) (sym now) (can_later f c.args.row later w.in-Some.cursors w.joined.new.cursors same le at (subst (CanRead f later) is can))))
+    ]
+
+pub returns-clause-holds : goal.returns-clause-holds
+returns-clause-holds g c =
+    let new : Option (List PlainCursor) = c.match-self.self-inside.cursors in
+    let Holds : Type 0 = (objects : List Object) → ReaderHolds objects c.args.self.now → ReaderHolds objects new in
+    elim c.match-self.branch [
+      | in-None w ↦
+          let now : new ≡ None = cc in
+          on_ok c.match-self.result (λ objects holds. subst (ReaderHolds objects) (sym now) tt)
+      | in-Some w ↦
+          let is : c.args.self.now ≡ Some w.in-Some.cursors = cc in
+          let now : new ≡ Some w.joined.new.cursors = cc in
+          let result : c.match-self.result ≡ w.joined.result = cc in
+          subst (λ (r : Result Val ReadFault). OnOk r Holds) (sym result) (on_ok_weaker w.joined.result (λ same objects holds.
+          subst (ReaderHolds objects) (sym now) (holds_later objects w.in-Some.cursors w.joined.new.cursors same (subst (ReaderHolds objects) is holds))) w.joined.ensures.same)
     ]
 
 pub returns-clause-answer : goal.returns-clause-answer

@@ -7,7 +7,7 @@ use Rattle.lan_model.specs.Table.{Table}
 use Rattle.lan_store.specs.Objects.{object}
 use Rattle.lan_store.specs.declared.name.Object.{Object}
 use Rattle.lan_manifest.specs.Versions.{IsListed, AreListed, manifest_name}
-use Rattle.lan_read.specs.Standing.{StandsAt, Agrees}
+use Rattle.lan_read.specs.Tables.{AgreesWith, StandsFor}
 
 -- the listed versions from a number on
 record AreFrom (objects : List Object) (n : ℕ) (versions : List ℕ) : Type 0 where
@@ -77,12 +77,20 @@ listed : (objects : List Object) → (versions : List ℕ) × AreListed objects 
 listed objects = let all = listed_from objects (2 ^ 53) 0 refl in (all.0, are_listed objects all.0 all.1)
 
 -- a dataset with no table
-pub bare_dataset : (objects : List Object) → (d : Dataset) × Agrees objects d
+pub bare_dataset : (objects : List Object) → (d : Dataset) × AgreesWith objects d
 bare_dataset objects = let all = listed objects in (record { listed = all.0; stands = [] }, record { listed = all.1; stands = λ k p below. absurd (omega (arith, below)) })
 
 -- a dataset with the table of one version
-pub dataset_with : (objects : List Object) (d : Dataset) (version : ℕ) (t : Table) → Agrees objects d → StandsAt objects version t → Agrees objects (record { listed = d.listed; stands = (version, t) ∷ [] })
+pub dataset_with : (objects : List Object) (d : Dataset) (version : ℕ) (t : Table) → AgreesWith objects d → StandsFor objects version t → AgreesWith objects (record { listed = d.listed; stands = (version, t) ∷ [] })
 dataset_with objects d version t agrees stands = record { listed = agrees.listed; stands = one } where
-  one : All (λ (p : ℕ × Table). StandsAt objects p.0 p.1) ((version, t) ∷ [])
+  one : All (λ (p : ℕ × Table). StandsFor objects p.0 p.1) ((version, t) ∷ [])
   one zero p below = stands
   one (suc k) p below = absurd (omega (arith, below))
+
+-- and one with those of two
+pub dataset_with_both : (objects : List Object) (d : Dataset) (v w : ℕ) (t u : Table) → AgreesWith objects d → StandsFor objects v t → StandsFor objects w u → AgreesWith objects (record { listed = d.listed; stands = (v, t) ∷ ((w, u) ∷ []) })
+dataset_with_both objects d v w t u agrees first second = record { listed = agrees.listed; stands = both } where
+  both : All (λ (p : ℕ × Table). StandsFor objects p.0 p.1) ((v, t) ∷ ((w, u) ∷ []))
+  both zero p below = first
+  both (suc zero) p below = second
+  both (suc (suc k)) p below = absurd (omega (arith, below))

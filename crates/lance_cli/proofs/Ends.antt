@@ -6,7 +6,7 @@ use Rattle.std.proofs.lemmas.List.{take_all}
 use Rattle.std.proofs.lemmas.Bool.{cases_lt}
 use Rattle.lan_model.specs.Dataset.{Dataset}
 use Rattle.lan_store.specs.declared.name.Object.{Object}
-use Rattle.lan_read.specs.Standing.{Agrees}
+use Rattle.lan_read.specs.Tables.{AgreesWith}
 use Rattle.lance_cli.specs.Chain.{Link, puts_of, changes, is_done, IsFront}
 use Rattle.lance_cli.specs.Replies.{Mode}
 use Rattle.lance_cli.specs.Runs.{Entry, Done, IsPart, StopsAt, Stand, StoppedIn, Stops, Moments}
@@ -37,7 +37,7 @@ changes_append [] ys = omega arith
 changes_append (x ∷ xs) ys = omega (arith, changes_more x (xs ++ ys), changes_more x xs, changes_append xs ys)
 
 -- each front of the objects and a front of the puts behind them
-pub moments_of_part : (old : List Object) (d : Dataset) (links : List Link) (n k : ℕ) (new : List Object) → Agrees old d → Links old d links → new ≡ old ++ take n (puts_of links) → length old ≤ k → k ≤ length new → (m : ℕ) × IsFront old d links m (take k new)
+pub moments_of_part : (old : List Object) (d : Dataset) (links : List Link) (n k : ℕ) (new : List Object) → AgreesWith old d → Links old d links → new ≡ old ++ take n (puts_of links) → length old ≤ k → k ≤ length new → (m : ℕ) × IsFront old d links m (take k new)
 moments_of_part old d links n k new agrees chain whole low high =
     let rest : ℕ = k - length old in
     let at : k ≡ length old + rest = omega (arith, low) in
@@ -66,7 +66,7 @@ stopped_part mode old links before behind at put is within =
 all_part : (old : List Object) (puts : List Object) → old ++ puts ≡ old ++ take (length puts) puts
 all_part old puts = ap (λ l. old ++ l) (sym (take_all (length puts) puts (omega arith)))
 
-stopped_moments : (mode : Mode) (old : List Object) (d : Dataset) (links : List Link) (now : Option (List Object)) (held holds : Option (List ℕ)) (f : Fault) (new : List Object) (k : ℕ) → Agrees old d → Links old d links → now ≡ Some new
+stopped_moments : (mode : Mode) (old : List Object) (d : Dataset) (links : List Link) (now : Option (List Object)) (held holds : Option (List ℕ)) (f : Fault) (new : List Object) (k : ℕ) → AgreesWith old d → Links old d links → now ≡ Some new
     → length old ≤ k → k ≤ length new → StoppedIn mode old d links now held holds f → (m : ℕ) × IsFront old d links m (take k new)
 stopped_moments mode old d links now held holds f new k agrees chain is low high (inl (early, same)) =
     moments_of_part old d links 0 k new agrees chain (same_Some new old (sym is ∙ same.objects) ∙ sym (append-nil old) ∙ ap (λ l. old ++ l) (nothing (puts_of links))) low high where
@@ -91,12 +91,12 @@ moments_hold e now held holds (Err f) is_done stops = λ new is old was input he
 -- ---- how many changes stand at the end
 
 -- on an Ok all
-pub done_front : (old : List Object) (d : Dataset) (links : List Link) → Agrees old d → Links old d links → IsFront old d links (length (changes links)) (old ++ puts_of links)
+pub done_front : (old : List Object) (d : Dataset) (links : List Link) → AgreesWith old d → Links old d links → IsFront old d links (length (changes links)) (old ++ puts_of links)
 done_front old d links agrees chain =
     subst (λ l. IsFront old d l (length (changes links)) (old ++ puts_of links)) (append-nil links) (front_done old d links [] agrees (subst (Links old d) (sym (append-nil links)) chain))
 
 -- all of the link's puts stand
-whole_front : (old : List Object) (d : Dataset) (before behind : List Link) (at : Link) (put : ℕ) → Agrees old d → Links old d (before ++ at ∷ behind) → length at.puts ≤ put
+whole_front : (old : List Object) (d : Dataset) (before behind : List Link) (at : Link) (put : ℕ) → AgreesWith old d → Links old d (before ++ at ∷ behind) → length at.puts ≤ put
     → IsFront old d (before ++ at ∷ behind) (length (changes (before ++ at ∷ []))) ((old ++ puts_of before) ++ take put at.puts)
 whole_front old d before behind at put agrees chain past =
     let split : (before ++ at ∷ []) ++ behind ≡ before ++ at ∷ behind = append_assoc before (at ∷ []) behind in
@@ -107,7 +107,7 @@ whole_front old d before behind at put agrees chain past =
     (subst (IsFront old d ((before ++ at ∷ []) ++ behind) (length (changes (before ++ at ∷ [])))) puts front)
 
 -- maybe the link's change, and maybe not
-either_front : (old : List Object) (d : Dataset) (before behind : List Link) (at : Link) (put : ℕ) → Agrees old d → Links old d (before ++ at ∷ behind)
+either_front : (old : List Object) (d : Dataset) (before behind : List Link) (at : Link) (put : ℕ) → AgreesWith old d → Links old d (before ++ at ∷ behind)
     → (m : ℕ) × ((m ≡ length (changes before)) ⊎ (m ≡ length (changes (before ++ at ∷ [])))) × IsFront old d (before ++ at ∷ behind) m ((old ++ puts_of before) ++ take put at.puts)
 either_front old d before behind at put agrees chain = elim (cases_lt put (length at.puts)) [
   | inl below ↦ (length (changes before), inl refl, front_within old d before behind at put agrees chain below)
@@ -115,7 +115,7 @@ either_front old d before behind at put agrees chain = elim (cases_lt put (lengt
 ]
 
 -- a link of which nothing is put leaves the objects as those before it did
-pub unput_front : (old : List Object) (d : Dataset) (before behind : List Link) (at : Link) (put : ℕ) → Agrees old d → Links old d (before ++ at ∷ behind) → put ≡ 0
+pub unput_front : (old : List Object) (d : Dataset) (before behind : List Link) (at : Link) (put : ℕ) → AgreesWith old d → Links old d (before ++ at ∷ behind) → put ≡ 0
     → IsFront old d (before ++ at ∷ behind) (length (changes before)) ((old ++ puts_of before) ++ take put at.puts)
 unput_front old d before behind at put agrees chain none =
     let front = front_done old d before (at ∷ behind) agrees chain in
@@ -125,7 +125,7 @@ unput_front old d before behind at put agrees chain none =
       nothing (o ∷ os) = refl
 
 -- what m is where a run stopped at a link
-pub stopped_front : (mode : Mode) (old : List Object) (d : Dataset) (before behind : List Link) (at : Link) (f : Fault) (now : Option (List Object)) (held holds : Option (List ℕ)) → Agrees old d → Links old d (before ++ at ∷ behind)
+pub stopped_front : (mode : Mode) (old : List Object) (d : Dataset) (before behind : List Link) (at : Link) (f : Fault) (now : Option (List Object)) (held holds : Option (List ℕ)) → AgreesWith old d → Links old d (before ++ at ∷ behind)
     → (s : StopsAt mode old before at f now held holds) → (m : ℕ) × Stand before at f m × IsFront old d (before ++ at ∷ behind) m ((old ++ puts_of before) ++ take s.put at.puts)
 stopped_front mode old d before behind at fault.WriteFault now held holds agrees chain s =
     (length (changes (before ++ at ∷ [])), refl, whole_front old d before behind at s.put agrees chain (omega (arith, s.part)))

@@ -4,7 +4,7 @@ use Rattle.std.specs.Prelude.{Bool, cond, MatchBool, ⊤}
 use Rattle.std.proofs.lemmas.Bool.{cases_lt}
 use Rattle.lan_model.specs.Dataset.{Dataset}
 use Rattle.lan_store.specs.declared.name.Object.{Object}
-use Rattle.lan_read.specs.Standing.{Agrees}
+use Rattle.lan_read.specs.Tables.{AgreesWith}
 use Rattle.lance_cli.specs.Chain.{Link, IsLink, Chain, outcomes_of, puts_of, changes, after_changes, IsFront}
 use Rattle.lance_cli.specs.Replies.{Told, Mode, said_by, goes_on, left_by, left_after}
 use Rattle.lance_cli.proofs.StepStands.{Stepped, is_accepted, step_stands}
@@ -73,7 +73,7 @@ front_behind old d link links m part s f =
     let (k, within, is) = f.puts in
     record {
       within = omega (arith, changes_more link links, f.within);
-      agrees = subst (Agrees part) (sym (after_more d link links m s.same)) f.agrees;
+      agrees = subst (AgreesWith part) (sym (after_more d link links m s.same)) f.agrees;
       listed = ap (λ (l : Dataset). length l.listed) (after_more d link links m s.same) ∙ f.listed ∙ listed_more d link m s.same s.more;
       puts = (
         length link.puts + k,
@@ -83,13 +83,13 @@ front_behind old d link links m part s f =
     }
 
 -- nothing is put yet, or a part of what the first link puts
-pub front_first : (old : List Object) (d : Dataset) (links : List Link) (k : ℕ) (part : List Object) → Agrees part d → k ≤ length (puts_of links) → part ≡ old ++ take k (puts_of links) → IsFront old d links 0 part
+pub front_first : (old : List Object) (d : Dataset) (links : List Link) (k : ℕ) (part : List Object) → AgreesWith part d → k ≤ length (puts_of links) → part ≡ old ++ take k (puts_of links) → IsFront old d links 0 part
 front_first old d links k part agrees within is =
     let none : take 0 (changes links) ≡ [] = nothing (changes links) in
     let same : after_changes d links 0 ≡ d = ap (λ l. left_after d (outcomes_of l)) none in
     record {
       within = omega arith;
-      agrees = subst (Agrees part) (sym same) agrees;
+      agrees = subst (AgreesWith part) (sym same) agrees;
       listed = ap (λ (l : Dataset). length l.listed) same ∙ omega arith;
       puts = (k, within, is);
     } where
@@ -104,17 +104,17 @@ nothing_taken (o ∷ os) = refl
 -- ---- the fronts of a chain
 
 -- each front of the objects stands for the dataset after so many accepted changes
-pub fronts : (old : List Object) (d : Dataset) (links : List Link) (k : ℕ) → Agrees old d → Links old d links → k ≤ length (puts_of links) → (m : ℕ) × IsFront old d links m (old ++ take k (puts_of links))
+pub fronts : (old : List Object) (d : Dataset) (links : List Link) (k : ℕ) → AgreesWith old d → Links old d links → k ≤ length (puts_of links) → (m : ℕ) × IsFront old d links m (old ++ take k (puts_of links))
 fronts old d [] k agrees chain within =
     let none : k ≡ 0 = omega (arith, within) in
     let part : old ++ take k [] ≡ old = ap (λ n. old ++ take n []) none ∙ append-nil old in
-    (0, front_first old d [] k (old ++ take k []) (subst (λ (l : List Object). Agrees l d) (sym part) agrees) within refl)
+    (0, front_first old d [] k (old ++ take k []) (subst (λ (l : List Object). AgreesWith l d) (sym part) agrees) within refl)
 fronts old d (link ∷ links) k agrees (is, behind) within =
     let s = step_stands old d link agrees is in
     elim (cases_lt k (length link.puts)) [
       | inl below ↦
           let part : old ++ take k (link.puts ++ puts_of links) ≡ old ++ take k link.puts = ap (λ l. old ++ l) (take_within link.puts (puts_of links) k (omega (arith, below))) in
-          (0, front_first old d (link ∷ links) k (old ++ take k (link.puts ++ puts_of links)) (subst (λ l. Agrees l d) (sym part) (s.before k below)) within refl)
+          (0, front_first old d (link ∷ links) k (old ++ take k (link.puts ++ puts_of links)) (subst (λ l. AgreesWith l d) (sym part) (s.before k below)) within refl)
       | inr past ↦
           let rest : ℕ = k - length link.puts in
           let whole : k ≡ length link.puts + rest = omega (arith, past) in
@@ -125,9 +125,9 @@ fronts old d (link ∷ links) k agrees (is, behind) within =
     ]
 
 -- what is put of the first links stands for the dataset after their accepted changes
-pub front_done : (old : List Object) (d : Dataset) (before behind : List Link) → Agrees old d → Links old d (before ++ behind) → IsFront old d (before ++ behind) (length (changes before)) (old ++ puts_of before)
+pub front_done : (old : List Object) (d : Dataset) (before behind : List Link) → AgreesWith old d → Links old d (before ++ behind) → IsFront old d (before ++ behind) (length (changes before)) (old ++ puts_of before)
 front_done old d [] behind agrees chain =
-    front_first old d behind 0 (old ++ []) (subst (λ (l : List Object). Agrees l d) (sym (append-nil old)) agrees) (omega arith) (ap (λ l. old ++ l) (sym (nothing_taken (puts_of behind))))
+    front_first old d behind 0 (old ++ []) (subst (λ (l : List Object). AgreesWith l d) (sym (append-nil old)) agrees) (omega arith) (ap (λ l. old ++ l) (sym (nothing_taken (puts_of behind))))
 front_done old d (link ∷ before) behind agrees (is, chain) =
     let s = step_stands old d link agrees is in
     let front = front_done (old ++ link.puts) (left_by d link.outcome) before behind s.after chain in
@@ -136,13 +136,13 @@ front_done old d (link ∷ before) behind agrees (is, chain) =
     (subst (IsFront old d (link ∷ (before ++ behind)) (count link + length (changes before))) (append_assoc old link.puts (puts_of before)) whole)
 
 -- and so does what is put of them and a part of the next, but for its last object
-pub front_within : (old : List Object) (d : Dataset) (before behind : List Link) (at : Link) (put : ℕ) → Agrees old d → Links old d (before ++ at ∷ behind) → put < length at.puts
+pub front_within : (old : List Object) (d : Dataset) (before behind : List Link) (at : Link) (put : ℕ) → AgreesWith old d → Links old d (before ++ at ∷ behind) → put < length at.puts
     → IsFront old d (before ++ at ∷ behind) (length (changes before)) ((old ++ puts_of before) ++ take put at.puts)
 front_within old d [] behind at put agrees (is, chain) below =
     let s = step_stands old d at agrees is in
     let part : (old ++ []) ++ take put at.puts ≡ old ++ take put at.puts = ap (λ (l : List Object). l ++ take put at.puts) (append-nil old) in
     let here : old ++ take put at.puts ≡ old ++ take put (at.puts ++ puts_of behind) = ap (λ l. old ++ l) (sym (take_within at.puts (puts_of behind) put (omega (arith, below)))) in
-    front_first old d (at ∷ behind) put ((old ++ []) ++ take put at.puts) (subst (λ l. Agrees l d) (sym part) (s.before put below)) (omega (arith, below, length-append at.puts (puts_of behind))) (part ∙ here)
+    front_first old d (at ∷ behind) put ((old ++ []) ++ take put at.puts) (subst (λ l. AgreesWith l d) (sym part) (s.before put below)) (omega (arith, below, length-append at.puts (puts_of behind))) (part ∙ here)
 front_within old d (link ∷ before) behind at put agrees (is, chain) below =
     let s = step_stands old d link agrees is in
     let front = front_within (old ++ link.puts) (left_by d link.outcome) before behind at put s.after chain below in
@@ -151,8 +151,8 @@ front_within old d (link ∷ before) behind at put agrees (is, chain) below =
     (subst (λ l. IsFront old d (link ∷ (before ++ at ∷ behind)) (count link + length (changes before)) (l ++ take put at.puts)) (append_assoc old link.puts (puts_of before)) whole)
 
 -- at every step the objects stand for the dataset after the links before it
-pub steps_agree : (old : List Object) (d : Dataset) (before behind : List Link) → Agrees old d → Links old d (before ++ behind) → Agrees (old ++ puts_of before) (left_after d (outcomes_of before))
-steps_agree old d [] behind agrees chain = subst (λ (l : List Object). Agrees l d) (sym (append-nil old)) agrees
+pub steps_agree : (old : List Object) (d : Dataset) (before behind : List Link) → AgreesWith old d → Links old d (before ++ behind) → AgreesWith (old ++ puts_of before) (left_after d (outcomes_of before))
+steps_agree old d [] behind agrees chain = subst (λ (l : List Object). AgreesWith l d) (sym (append-nil old)) agrees
 steps_agree old d (link ∷ before) behind agrees (is, chain) =
-    subst (λ l. Agrees l (left_after (left_by d link.outcome) (outcomes_of before))) (append_assoc old link.puts (puts_of before))
+    subst (λ l. AgreesWith l (left_after (left_by d link.outcome) (outcomes_of before))) (append_assoc old link.puts (puts_of before))
     (steps_agree (old ++ link.puts) (left_by d link.outcome) before behind (step_stands old d link agrees is).after chain)

@@ -1,45 +1,47 @@
--- What a command did is what is replied to it, where the version that it reads stands.
-use Rattle.std.proofs.Common.{◌≡◌, inl, inr, refl, sym, ◌∙◌, ap, subst, ℕ, ◌+◌, List, [], ◌∷◌, ◌++◌, take, map, arith, append-nil, true, false}
-use Rattle.std.specs.Prelude.{Option, Some, None, option_map, unwrap_or, flat_map, Result, Ok, Err}
+-- What a command did is what is replied to it, where the versions that it reads stand.
+use Rattle.std.proofs.Common.{◌≡◌, inl, inr, refl, sym, ◌∙◌, ap, subst, ℕ, ◌+◌, List, [], ◌∷◌, ◌++◌, take, map, length, arith, append-nil, length-append, true, false}
+use Rattle.std.specs.Prelude.{Bool, MatchBool, ◌⊎◌, ◌<◌, nat_eq, Option, Some, None, unwrap_or, flat_map, Result, Ok, Err}
+use Rattle.std.specs.List.{list_any}
 use Rattle.std.proofs.lemmas.Option.{same_Some}
-use Rattle.lan_model.specs.After as change
-use Rattle.lan_model.specs.After.{after}
-use Rattle.lan_model.specs.Dataset.{Dataset, newest, table_at, with_version}
-use Rattle.lan_model.specs.Plain.{primitive, vector, text as texts, bytes as binaries, list, struct, PlainField, field, PlainValue, unnumbered}
+use Rattle.std.proofs.lemmas.List.{take_all}
+use Rattle.std.proofs.lemmas.List.Concat.{flat_map-append}
+use Rattle.lan_model.specs.After as after
+use Rattle.lan_model.specs.After.{Refusal}
+use Rattle.lan_model.specs.Dataset.{Dataset, newest, with_version}
+use Rattle.lan_model.specs.Plain.{PlainField, PlainValue, unnumbered}
 use Rattle.lan_model.specs.Table.{Table, Column}
+use Rattle.lan_model.specs.Take.{scan_of}
 use Rattle.lan_form.specs.Form.{form}
-use Rattle.lan_form.specs.Judged.{Judged}
 use Rattle.lan_rows.specs.Line.{line_of}
 use Rattle.lan_rows.specs.Lines.{rows_of}
-use Rattle.lan_rows.specs.declared.lines.LinesFault.{LinesFault}
-use Rattle.lan_store.specs.declared.name.Object.{Object}
-use Rattle.lan_manifest.specs.Columns.{IsColumn}
-use Rattle.lan_manifest.specs.Manifests.{PlainManifest}
-use Rattle.lan_manifest.specs.Reads.{ManifestAt}
-use Rattle.lan_manifest.specs.Stage.{IsOneColumn}
-use Rattle.lan_manifest.specs.Versions.{IsNewest, NoneListed}
-use Rattle.lan_read.specs.Newest.{NewestManifest}
-use Rattle.lan_read.specs.Standing.{RowsOf, StandsAt, Agrees}
-use Rattle.lan_read.proofs.LawTerms.{newest_is, none_is, manifest_one, stands_with}
-use Rattle.lan_commit.specs.First.{no_rows, first_object}
-use Rattle.lan_commit.specs.Puts.{append_puts}
-use Rattle.lan_commit.specs.declared.limits.Which.{Which}
-use Rattle.lan_scan.specs.Scans.{text_of}
-use Rattle.lan_scan.proofs.LawTerms.{rows_front as lines_front, bytes_front as cut_front}
-use Rattle.lan_scan.specs.Sending.{GotPart}
 use Rattle.lan_store.specs.Streams.{and_then_bytes}
-use Rattle.lance_cli.specs.Causes.{Cause, Reads, BadInput, Makes, IsNotBuilt, Limited}
+use Rattle.lan_store.specs.declared.name.Object.{Object}
+use Rattle.lan_manifest.specs.Manifests.{PlainManifest}
+use Rattle.lan_manifest.specs.Versions.{IsListed, IsNewest, NoneListed, AreListed}
+use Rattle.lan_read.specs.Opening.{IsAskedFor}
+use Rattle.lan_read.specs.Scanned.{AreScanned, IsScanFront, fields_at}
+use Rattle.lan_read.specs.Tables.{AgreesWith, HasManifest, StandsFor}
+use Rattle.lan_read.proofs.LawTerms.{scanned_table, scanned_front}
+use Rattle.lan_commit.specs.Change as change
+use Rattle.lan_commit.specs.Change.{Change, manifest_after}
+use Rattle.lan_commit.specs.ChangePuts.{puts_of, limit_of}
+use Rattle.lan_commit.specs.Makes.{ComesAfter}
+use Rattle.lan_commit.specs.declared.limits.Which.{Which}
+use Rattle.lance_cli.specs.Causes.{Cause, Reads, BadInput, Makes, Limited, LacksVersion, LacksColumn, named_version}
 use Rattle.lance_cli.specs.Chain.{Link, PutsBy, IsLink}
-use Rattle.lance_cli.specs.Commands.{Asked, create, append, scan, schema, reads_version, prints_rows, Request}
-use Rattle.lance_cli.specs.Creates.{Takes}
-use Rattle.lance_cli.specs.Puts.{Puts, Shows, Accepts, CreateAccepted, AppendAccepted, ScanAccepted, SchemaAccepted}
-use Rattle.lance_cli.specs.Replies.{Told, Shown, Outcome, refused, done, within, changed_to, create_reply, append_reply, answer, single, said_by, text_by}
-use Rattle.lance_cli.specs.Reports.{version_text, schema_text}
-use Rattle.lance_cli.specs.Served.{PrintsRows, PrintsBytes}
-use Rattle.lance_cli.specs.Stage.{is_built}
+use Rattle.lance_cli.specs.Commands.{Asked, create, append, restore, scan, schema, versions, needs_dataset, is_change, prints_rows, Request}
+use Rattle.lance_cli.specs.Options.{Options}
+use Rattle.lance_cli.specs.Puts.{AsksChange, Puts, Shows, Accepts, ChangeAccepted, PrintsScan, Prints}
+use Rattle.lance_cli.specs.Replies.{Told, Outcome, refused, done, within, changed_to, change_reply, create_reply, append_reply, on_version, scan_reply, versions_reply, answer, single, said_by, text_by, fault_of}
+use Rattle.lance_cli.specs.Reports.{GotPart, version_text, schema_text, versions_text, rows_text}
+use Rattle.lance_cli.specs.Scanning.{IsAskedManifest, IsScanned, lines_at, places_asked}
+use Rattle.lance_cli.specs.Served.{OnFront, PrintsRows, PrintsBytes}
 use Rattle.lance_cli.specs.declared.fault.Fault.{Fault}
 use Rattle.lance_cli.specs.declared.fault.Fault.TheVariants as fault
-use Rattle.lance_cli.proofs.NewestReply.{Read, version_read, none_replied, columns_of, newest_behind}
+use Rattle.lance_cli.proofs.Changing.{Made, made, comes_after, one_change, created_reply, there_reply, newest_read, lines_reply, restored_read, newest_one}
+use Rattle.lance_cli.proofs.Fronts.{take_within}
+use Rattle.lance_cli.proofs.Listings.{one_listing}
+use Rattle.lance_cli.proofs.VersionReply.{Read, columns_of, lacking_replied, newest_at, newest_behind, newest_listed, newest_none, none_replied, not_among, some_newest, version_read}
 
 -- what is replied to an accepted command, and what its link puts
 pub record Settled (outcome : Outcome) (link_puts puts : List Object) (text : List ℕ) : Type 0 where
@@ -47,218 +49,188 @@ pub record Settled (outcome : Outcome) (link_puts puts : List Object) (text : Li
   pub replies : outcome ≡ done text later
   pub puts_are : link_puts ≡ puts
 
--- the reply is this one, and the link puts what it does
-settled_by : (old : List Object) (r : Request) (asked : Asked) (outcome : Outcome) (link_puts puts : List Object) (text : List ℕ) (later : Dataset) → PutsBy old r outcome link_puts → r.asked ≡ asked → Some outcome ≡ Some (done text later) → (Puts old r asked link_puts → link_puts ≡ puts) → Settled outcome link_puts puts text
-settled_by old r asked outcome link_puts puts text later put is replied one =
-    let same = same_Some outcome (done text later) replied in
-    record { later = later; replies = same; puts_are = one (subst (λ a. Puts old r a link_puts) is (subst (λ o. PutsBy old r o link_puts) same put)) }
+-- ---- a change
 
--- ---- create
+-- a change that reaches no limit is done
+change_done : (old : List Object) (d : Dataset) (told : Told) (outcome : Outcome) (puts : List Object) (text : List ℕ) → AgreesWith old d → answer d told told.request.asked ≡ Some outcome → ((c : Change) → AsksChange old told.request told.request.asked c → told.shown.limit ≡ limit_of old c)
+    → ChangeAccepted old told.request puts text → (later : Dataset) × (outcome ≡ done text later)
+change_done old d told outcome puts text agrees replied shows a =
+    let m = made old d told outcome told.request.asked a.change agrees replied a.asks a.after in
+    let number = (manifest_after old a.change).version in
+    let later = with_version d number m.table in
+    let unlimited : told.shown.limit ≡ None = shows a.change a.asks ∙ a.no_limit in
+    let printed : version_text (unwrap_or (newest later) 0) ≡ text = ap (λ o. version_text (unwrap_or o 0)) (newest_behind d.listed number) ∙ sym a.text_is in
+    (later, m.replied ∙ ap (λ l. within l later) unlimited ∙ ap (λ t. done t later) printed)
 
-same_column : (f g : PlainField ℕ) → IsColumn f → IsColumn g → unnumbered f ≡ unnumbered g → f ≡ g
-same_column (field i n false (primitive q)) (field j m false (primitive p)) (i_is, some, utf8, ty) (j_is, some_too, utf8_too, ty_too) same = cc (i_is, j_is, same)
-same_column (field i n false (vector q k)) (field j m false (vector p l)) (i_is, some, utf8, ty) (j_is, some_too, utf8_too, ty_too) same = cc (i_is, j_is, same)
-same_column (field i n false (primitive q)) (field j m false (vector p l)) a b same = absurd (cc same)
-same_column (field i n false (vector q k)) (field j m false (primitive p)) a b same = absurd (cc same)
-same_column (field i n false texts) g a b same = absurd a.3
-same_column (field i n false binaries) g a b same = absurd a.3
-same_column (field i n false (list item)) g a b same = absurd a.3
-same_column (field i n false (struct members)) g a b same = absurd a.3
-same_column (field i n true ty) g a b same = absurd a
-same_column f (field j m false texts) a b same = absurd b.3
-same_column f (field j m false binaries) a b same = absurd b.3
-same_column f (field j m false (list item)) a b same = absurd b.3
-same_column f (field j m false (struct members)) a b same = absurd b.3
-same_column f (field j m true ty) a b same = absurd b
+change_settled : (old : List Object) (d : Dataset) (link : Link) (puts : List Object) (text : List ℕ) → AgreesWith old d → answer d link.told link.told.request.asked ≡ Some link.outcome → ((c : Change) → AsksChange old link.told.request link.told.request.asked c → link.told.shown.limit ≡ limit_of old c)
+    → (put : (text : List ℕ) (later : Dataset) → link.outcome ≡ done text later → (c : Change) × AsksChange old link.told.request link.told.request.asked c × (link.puts ≡ puts_of old c)) → ChangeAccepted old link.told.request puts text → Settled link.outcome link.puts puts text
+change_settled old d link puts text agrees replied shows put a =
+    let (later, is) = change_done old d link.told link.outcome puts text agrees replied shows a in
+    let (c, asks, are) = put text later is in
+    record { later = later; replies = is; puts_are = are ∙ ap (puts_of old) (one_change old link.told.request link.told.request.asked c a.change asks a.asks) ∙ sym a.puts_are }
 
-pub same_fields : (xs ys : List (PlainField ℕ)) → IsOneColumn xs → IsOneColumn ys → map unnumbered xs ≡ map unnumbered ys → xs ≡ ys
-same_fields [] ys a b same = absurd a
-same_fields (f ∷ []) [] a b same = absurd b
-same_fields (f ∷ []) (g ∷ []) a b same = ap (λ x. x ∷ []) (same_column f g a b (cc same))
-same_fields (f ∷ []) (g ∷ (h ∷ hs)) a b same = absurd b
-same_fields (f ∷ (g ∷ gs)) ys a b same = absurd a
+-- ---- a reading
 
--- a text is the schema of one list of fields
-pub one_schema : (json : List ℕ) (xs ys : List (PlainField ℕ)) → Takes json xs → Takes json ys → xs ≡ ys
-one_schema json xs ys a b = same_fields xs ys a.column b.column (cc (sym a.form ∙ b.form))
+scan_text : (d : Dataset) (t : Table) (columns : List Column) (options : Options) (places : List ℕ) (rows : List (List PlainValue)) → t.columns ≡ columns → places_asked columns options.columns ≡ Ok places → rows ≡ scan_of t places
+    → scan_reply d t (places_asked t.columns options.columns) ≡ done (lines_at columns places rows) d
+scan_text d t columns options places rows same asked are =
+    ap (λ c. scan_reply d t (places_asked c options.columns)) same ∙ ap (scan_reply d t) asked ∙ ap (λ c. done (lines_at c places (scan_of t places)) d) same ∙ ap (λ r. done (lines_at columns places r) d) (sym are)
 
-pub created_at : (d : Dataset) (line : ℕ) (shown : Shown) (o : Judged (List Column)) (columns : List Column) → o ≡ Ok columns → is_built columns ≡ true → d.listed ≡ [] → shown.limit ≡ None
-    → create_reply d line shown o ≡ Some (done (version_text 1) (with_version d 1 (record { columns = columns; rows = [] })))
-created_at d line shown o columns is built listed limit = rw (is, built, listed, limit) refl
+-- the versions are listed in one way
+listed_one : (old : List Object) (d : Dataset) (listed : List ℕ) → AgreesWith old d → AreListed old listed → d.listed ≡ listed
+listed_one old d listed agrees also = one_listing old d.listed listed agrees.listed also
 
-limited_at : (d : Dataset) (line : ℕ) (shown : Shown) (o : Judged (List Column)) (columns : List Column) (which : Which) (number : ℕ) → o ≡ Ok columns → is_built columns ≡ true → d.listed ≡ [] → shown.limit ≡ Some (which, number)
-    → create_reply d line shown o ≡ Some (refused (fault.Limit which number))
-limited_at d line shown o columns which number is built listed limit = rw (is, built, listed, limit) refl
-
-pub there_at : (d : Dataset) (line : ℕ) (shown : Shown) (o : Judged (List Column)) (columns : List Column) (version : ℕ) → o ≡ Ok columns → is_built columns ≡ true → newest d ≡ Some version → create_reply d line shown o ≡ Some (refused (fault.AlreadyThere version))
-there_at d line shown o columns version is built there = rw (is, built, there) refl
-
-pub unbuilt_at : (d : Dataset) (line : ℕ) (shown : Shown) (o : Judged (List Column)) (columns : List Column) → o ≡ Ok columns → is_built columns ≡ false → create_reply d line shown o ≡ Some (refused fault.NotBuilt)
-unbuilt_at d line shown o columns is none = rw (is, none) refl
-
-create_settled : (old : List Object) (d : Dataset) (told : Told) (outcome : Outcome) (link_puts : List Object) (json : List ℕ) (puts : List Object) (text : List ℕ) → told.request.asked ≡ create json → Agrees old d → Shows old told.request (create json) told.shown → answer d told (create json) ≡ Some outcome
-    → PutsBy old told.request outcome link_puts → CreateAccepted old json puts text → Settled outcome link_puts puts text
-create_settled old d told outcome link_puts json puts text asked agrees shows replied put a =
-    let limit : told.shown.limit ≡ None = shows a.fields a.takes ∙ a.no_limit in
-    let reply = created_at d told.request.line told.shown (form json) (no_rows a.fields).columns a.takes.form a.takes.built (none_is old d.listed agrees.listed a.none) limit in
-    settled_by old told.request (create json) outcome link_puts puts text (with_version d 1 (no_rows a.fields)) put asked (sym replied ∙ reply ∙ ap (λ t. Some (done t (with_version d 1 (no_rows a.fields)))) (sym a.text_is))
-    (λ p. p.2 ∙ ap (λ l. first_object l ∷ []) (one_schema json p.0 a.fields p.1 a.takes) ∙ sym a.puts_are)
-
--- ---- append
-
-pub newest_one : (old : List Object) (m n : PlainManifest) → NewestManifest old m → NewestManifest old n → m ≡ n
-newest_one old m n a b =
-    let same : b.version ≡ a.version = omega (arith, a.newest.newest b.version b.newest.listed, b.newest.newest a.version a.newest.listed) in
-    manifest_one old a.version m n a.reads (subst (λ v. ManifestAt old v n) same b.reads)
-
--- the reply where the lines are read by the newest manifest's fields
-reply_to : (old : List Object) (d : Dataset) (shown : Shown) (lines : List (ℕ × List ℕ)) (outcome : Outcome) (m : PlainManifest) (newest : NewestManifest old m) (rows : Result (List (List PlainValue)) LinesFault)
-    → (read : Read old d newest.version (λ t. append_reply d shown (rows_of t.columns lines)) outcome) → rows_of (map unnumbered m.fields) lines ≡ rows → append_reply d shown rows ≡ Some outcome
-reply_to old d shown lines outcome m newest rows read is =
-    ap (append_reply d shown) (sym (ap (λ columns. rows_of columns lines) (columns_of old newest.version read.table m read.stands newest.reads) ∙ is)) ∙ read.reply
-
-read_on : (old : List Object) (d : Dataset) (told : Told) (outcome : Outcome) (version : ℕ) → Agrees old d → IsNewest old version → answer d told append ≡ Some outcome → Read old d version (λ t. append_reply d told.shown (rows_of t.columns told.request.lines)) outcome
-read_on old d told outcome version agrees newest replied = version_read old d version (λ t. append_reply d told.shown (rows_of t.columns told.request.lines)) outcome agrees newest replied
-
--- the dataset with the rows more
-abbrev pub after_append : Dataset → ℕ → Table → List (List PlainValue) → Dataset
-after_append d version t rows = with_version d (version + 1) (record t { rows = t.rows ++ rows })
-
-after_is : (d : Dataset) (rows : List (List PlainValue)) (version : ℕ) (t : Table) → newest d ≡ Some version → table_at d version ≡ Some t → after d (change.append rows) ≡ Some (Ok (after_append d version t rows))
-after_is d rows version t is_newest at = rw (is_newest, at) refl
-
-pub changed : (d : Dataset) (shown : Shown) (rows : List (List PlainValue)) (version : ℕ) (t : Table) → newest d ≡ Some version → table_at d version ≡ Some t → append_reply d shown (Ok rows) ≡ Some (within shown.limit (after_append d version t rows))
-changed d shown rows version t is_newest at = ap (option_map (changed_to shown)) (after_is d rows version t is_newest at)
-
-done_text : (d : Dataset) (version next : ℕ) (t : Table) (rows : List (List PlainValue)) → next ≡ version + 1 → version_text (unwrap_or (newest (after_append d version t rows)) 0) ≡ version_text next
-done_text d version next t rows is = ap (λ o. version_text (unwrap_or o 0)) (newest_behind d.listed (version + 1)) ∙ ap version_text (sym is)
-
-append_settled : (old : List Object) (d : Dataset) (told : Told) (outcome : Outcome) (link_puts : List Object) (puts : List Object) (text : List ℕ) → told.request.asked ≡ append → Agrees old d → Shows old told.request append told.shown → answer d told append ≡ Some outcome
-    → PutsBy old told.request outcome link_puts → AppendAccepted old told.request.lines puts text → Settled outcome link_puts puts text
-append_settled old d told outcome link_puts puts text asked agrees shows replied put a =
-    let n = a.reads.newest in
-    let read = read_on old d told outcome n.version agrees n.newest replied in
-    let later = after_append d n.version read.table a.rows in
-    let reply = reply_to old d told.shown told.request.lines outcome a.manifest n (Ok a.rows) read a.reads.reads in
-    let unlimited = shows a.manifest a.rows n a.reads.reads ∙ a.no_limit in
-    let number : a.manifest.version + 1 ≡ n.version + 1 = ap (λ v. v + 1) n.reads.reads.numbered in
-    settled_by old told.request append outcome link_puts puts text later put asked
-    (sym reply ∙ changed d told.shown a.rows n.version read.table read.newest read.at ∙ ap (λ l. Some (within l later)) unlimited ∙ ap (λ t. Some (done t later)) (done_text d n.version (a.manifest.version + 1) read.table a.rows number ∙ sym a.text_is))
-    (λ p. one p ∙ sym a.puts_are) where
-      one : (p : Puts old told.request append link_puts) → link_puts ≡ append_puts old a.manifest a.rows
-      one (m, rows, reads, are) =
-          let same = newest_one old m a.manifest reads.newest a.reads.newest in
-          let rows_same : rows ≡ a.rows = cc (sym reads.reads ∙ ap (λ n. rows_of (map unnumbered n.fields) told.request.lines) same ∙ a.reads.reads) in
-          are ∙ ap (λ n. append_puts old n rows) same ∙ ap (append_puts old a.manifest) rows_same
-
--- ---- readings
-
--- the lines of a table
-abbrev pub lines_of : Table → List ℕ
-lines_of t = flat_map (line_of t.columns) t.rows
-
-same_lines : (old : List Object) (version : ℕ) (t : Table) (m : PlainManifest) (rows : List (List PlainValue)) → StandsAt old version t → ManifestAt old version m → t.rows ≡ rows → lines_of t ≡ text_of m.fields rows
-same_lines old version t m rows stands reads is = ap (λ columns. flat_map (line_of columns) t.rows) (columns_of old version t m stands reads) ∙ ap (text_of m.fields) is
-
-scan_settled : (old : List Object) (d : Dataset) (told : Told) (outcome : Outcome) (link_puts : List Object) (puts : List Object) (text : List ℕ) → told.request.asked ≡ scan → Agrees old d → answer d told scan ≡ Some outcome → PutsBy old told.request outcome link_puts → ScanAccepted old puts text
-    → Settled outcome link_puts puts text
-scan_settled old d told outcome link_puts puts text asked agrees replied put a =
-    let n = a.newest in
-    let read = version_read old d n.version (λ t. Some (done (lines_of t) d)) outcome agrees n.newest replied in
-    let same = stands_with old n.version read.table a.manifest a.rows read.stands n.reads a.reads in
-    settled_by old told.request scan outcome link_puts puts text d put asked
-    (sym read.reply ∙ ap (λ t. Some (done t d)) (same_lines old n.version read.table a.manifest a.rows read.stands n.reads same ∙ sym a.text_is)) (λ none. none ∙ sym a.none)
-
-schema_settled : (old : List Object) (d : Dataset) (told : Told) (outcome : Outcome) (link_puts : List Object) (puts : List Object) (text : List ℕ) → told.request.asked ≡ schema → Agrees old d → answer d told schema ≡ Some outcome → PutsBy old told.request outcome link_puts → SchemaAccepted old puts text
-    → Settled outcome link_puts puts text
-schema_settled old d told outcome link_puts puts text asked agrees replied put a =
-    let n = a.newest in
-    let read = version_read old d n.version (λ t. Some (done (schema_text t.columns) d)) outcome agrees n.newest replied in
-    settled_by old told.request schema outcome link_puts puts text d put asked
-    (sym read.reply ∙ ap (λ t. Some (done t d)) (ap schema_text (columns_of old n.version read.table a.manifest read.stands n.reads) ∙ sym a.text_is)) (λ none. none ∙ sym a.none)
+-- what is printed is what is replied
+read_done : (old : List Object) (d : Dataset) (told : Told) (outcome : Outcome) (asked : Asked) (text : List ℕ) → AgreesWith old d → answer d told asked ≡ Some outcome → Prints old asked text → outcome ≡ done text d
+read_done old d told outcome (create json) text agrees replied prints = absurd prints
+read_done old d told outcome append text agrees replied prints = absurd prints
+read_done old d told outcome (restore version) text agrees replied prints = absurd prints
+read_done old d told outcome (scan options) text agrees replied p =
+    let m = p.manifest in
+    let read = version_read old d options.version m.version (λ t. Some (scan_reply d t (places_asked t.columns options.columns))) outcome agrees p.reads.manifest.is_asked replied in
+    let t = read.table in
+    let has = p.reads.manifest.has in
+    sym (same_Some (scan_reply d t (places_asked t.columns options.columns)) outcome read.reply)
+    ∙ scan_text d t (map unnumbered m.fields) options p.places p.rows (columns_of old m.version t m read.stands has) p.reads.places_are (scanned_table old m.version t m p.places p.rows p.scanned has read.stands)
+    ∙ ap (λ t. done t d) (sym p.text_is)
+read_done old d told outcome (schema version) text agrees replied (m, is, text_is) =
+    let read = version_read old d version m.version (λ t. Some (done (schema_text t.columns) d)) outcome agrees is.is_asked replied in
+    sym (same_Some (done (schema_text read.table.columns) d) outcome read.reply) ∙ ap (λ c. done (schema_text c) d) (columns_of old m.version read.table m read.stands is.has) ∙ ap (λ t. done t d) (sym text_is)
+read_done old d told outcome versions text agrees replied (listed, are, some, text_is) =
+    same_Some outcome (done text d) (sym replied ∙ ap (λ l. Some (versions_reply d l)) (listed_one old d listed agrees are) ∙ go listed some text_is) where
+      go : (listed : List ℕ) → 0 < length listed → text ≡ versions_text listed → Some (versions_reply d listed) ≡ Some (done text d)
+      go [] some is = absurd (omega (arith, some))
+      go (v ∷ vs) some is = ap (λ t. Some (done t d)) (sym is)
 
 -- ---- every command
 
-settled_as : (old : List Object) (d : Dataset) (told : Told) (outcome : Outcome) (link_puts : List Object) (asked : Asked) (puts : List Object) (text : List ℕ) → told.request.asked ≡ asked → Agrees old d → Shows old told.request asked told.shown → answer d told asked ≡ Some outcome
-    → PutsBy old told.request outcome link_puts → Accepts old told.request asked puts text → Settled outcome link_puts puts text
-settled_as old d told outcome link_puts (create json) puts text asked agrees shows replied put a = create_settled old d told outcome link_puts json puts text asked agrees shows replied put a
-settled_as old d told outcome link_puts append puts text asked agrees shows replied put a = append_settled old d told outcome link_puts puts text asked agrees shows replied put a
-settled_as old d told outcome link_puts scan puts text asked agrees shows replied put a = scan_settled old d told outcome link_puts puts text asked agrees replied put a
-settled_as old d told outcome link_puts schema puts text asked agrees shows replied put a = schema_settled old d told outcome link_puts puts text asked agrees replied put a
+settled_as : (old : List Object) (d : Dataset) (link : Link) (puts : List Object) (text : List ℕ) (b : Bool) → AgreesWith old d → answer d link.told link.told.request.asked ≡ Some link.outcome
+    → MatchBool b ((c : Change) → AsksChange old link.told.request link.told.request.asked c → link.told.shown.limit ≡ limit_of old c) (link.told.shown.limit ≡ None)
+    → ((text : List ℕ) (later : Dataset) → link.outcome ≡ done text later → MatchBool b ((c : Change) × AsksChange old link.told.request link.told.request.asked c × (link.puts ≡ puts_of old c)) (link.puts ≡ []))
+    → MatchBool b (ChangeAccepted old link.told.request puts text) ((puts ≡ []) × Prints old link.told.request.asked text) → Settled link.outcome link.puts puts text
+settled_as old d link puts text true agrees replied shows put a = change_settled old d link puts text agrees replied shows put a
+settled_as old d link puts text false agrees replied shows put (none, prints) =
+    let is = read_done old d link.told link.outcome link.told.request.asked text agrees replied prints in
+    record { later = d; replies = is; puts_are = put text d is ∙ sym none }
+
+put_of : (old : List Object) (r : Request) (outcome : Outcome) (puts : List Object) (text : List ℕ) (later : Dataset) → PutsBy old r outcome puts → outcome ≡ done text later → Puts old r puts
+put_of old r outcome puts text later put is = subst (λ o. PutsBy old r o puts) is put
 
 -- an accepted command is replied with its text, and its link puts its objects
-pub settled : (old : List Object) (d : Dataset) (link : Link) (puts : List Object) (text : List ℕ) → Agrees old d → IsLink old d link → Accepts old link.told.request link.told.request.asked puts text → Settled link.outcome link.puts puts text
-settled old d link puts text agrees is a = settled_as old d link.told link.outcome link.puts link.told.request.asked puts text refl agrees is.shows is.replied is.puts a
+pub settled : (old : List Object) (d : Dataset) (link : Link) (puts : List Object) (text : List ℕ) → AgreesWith old d → IsLink old d link → Accepts old link.told.request puts text → Settled link.outcome link.puts puts text
+settled old d link puts text agrees is a = settled_as old d link puts text (is_change link.told.request.asked) agrees is.replied is.shows (λ text later same. put_of old link.told.request link.outcome link.puts text later is.puts same) a
 
 -- ---- refusals
 
-bad_input : (old : List Object) (d : Dataset) (told : Told) (outcome : Outcome) (asked : Asked) (f : Fault) → Agrees old d → answer d told asked ≡ Some outcome → BadInput (Some old) told.request asked f → outcome ≡ refused f
+bad_input : (old : List Object) (d : Dataset) (told : Told) (outcome : Outcome) (asked : Asked) (f : Fault) → AgreesWith old d → answer d told asked ≡ Some outcome → BadInput (Some old) told.request asked f → outcome ≡ refused f
 bad_input old d told outcome (create json) f agrees replied (why, bad, is) = same_Some outcome (refused f) (sym replied ∙ ap (create_reply d told.request.line told.shown) bad ∙ ap (λ g. Some (refused g)) (sym is))
 bad_input old d told outcome append f agrees replied bad =
-    let (m, why, newest, not, is) = bad old refl in
-    let read = read_on old d told outcome newest.version agrees newest.newest replied in
-    same_Some outcome (refused f) (sym (reply_to old d told.shown told.request.lines outcome m newest (Err why) read not) ∙ ap (λ g. Some (refused g)) (sym is))
-bad_input old d told outcome scan f agrees replied bad = absurd bad
-bad_input old d told outcome schema f agrees replied bad = absurd bad
+    let (m, why, n, not, is) = bad old refl in
+    let read = newest_read old d told outcome m agrees n replied in
+    same_Some outcome (refused f) (sym (lines_reply old d told.shown told.request.lines outcome m n (Err why) read not) ∙ ap (λ g. Some (refused g)) (sym is))
+bad_input old d told outcome (restore version) f agrees replied bad = absurd bad
+bad_input old d told outcome (scan options) f agrees replied bad = absurd bad
+bad_input old d told outcome (schema version) f agrees replied bad = absurd bad
+bad_input old d told outcome versions f agrees replied bad = absurd bad
 
-not_built : (d : Dataset) (told : Told) (outcome : Outcome) (asked : Asked) → answer d told asked ≡ Some outcome → IsNotBuilt asked → outcome ≡ refused fault.NotBuilt
-not_built d told outcome (create json) replied (columns, is, none) = same_Some outcome (refused fault.NotBuilt) (sym replied ∙ unbuilt_at d told.request.line told.shown (form json) columns is none)
-not_built d told outcome append replied bad = absurd bad
-not_built d told outcome scan replied bad = absurd bad
-not_built d told outcome schema replied bad = absurd bad
+already_there : (old : List Object) (d : Dataset) (told : Told) (outcome : Outcome) (asked : Asked) (version : ℕ) → AgreesWith old d → answer d told asked ≡ Some outcome → Makes asked → IsNewest old version → outcome ≡ refused (fault.AlreadyThere version)
+already_there old d told outcome (create json) version agrees replied (fields, takes) n =
+    same_Some outcome (refused (fault.AlreadyThere version)) (sym replied ∙ there_reply d told.request.line told.shown (form json) (map unnumbered fields) version takes.form (newest_at old d version agrees n))
+already_there old d told outcome append version agrees replied never n = absurd never
+already_there old d told outcome (restore number) version agrees replied never n = absurd never
+already_there old d told outcome (scan options) version agrees replied never n = absurd never
+already_there old d told outcome (schema number) version agrees replied never n = absurd never
+already_there old d told outcome versions version agrees replied never n = absurd never
 
-already_there : (old : List Object) (d : Dataset) (told : Told) (outcome : Outcome) (asked : Asked) (version : ℕ) → Agrees old d → answer d told asked ≡ Some outcome → Makes asked → IsNewest old version → outcome ≡ refused (fault.AlreadyThere version)
-already_there old d told outcome (create json) version agrees replied (fields, takes) newest =
-    same_Some outcome (refused (fault.AlreadyThere version)) (sym replied ∙ there_at d told.request.line told.shown (form json) (no_rows fields).columns version takes.form takes.built (newest_is old d.listed version agrees.listed newest))
-already_there old d told outcome append version agrees replied never newest = absurd never
-already_there old d told outcome scan version agrees replied never newest = absurd never
-already_there old d told outcome schema version agrees replied never newest = absurd never
+limited : (old : List Object) (d : Dataset) (told : Told) (outcome : Outcome) (which : Which) (number : ℕ) (b : Bool) → is_change told.request.asked ≡ b → b ≡ true → AgreesWith old d → answer d told told.request.asked ≡ Some outcome
+    → MatchBool b ((c : Change) → AsksChange old told.request told.request.asked c → told.shown.limit ≡ limit_of old c) (told.shown.limit ≡ None) → Limited told.request which number old → outcome ≡ refused (fault.Limit which number)
+limited old d told outcome which number false changes never agrees replied shows limit = absurd (cc never)
+limited old d told outcome which number true changes same agrees replied shows (c, asks, after, limit) =
+    let m = made old d told outcome told.request.asked c agrees replied asks after in
+    m.replied ∙ ap (λ l. within l (with_version d (manifest_after old c).version m.table)) (shows c asks ∙ limit)
 
-limited : (old : List Object) (d : Dataset) (told : Told) (outcome : Outcome) (asked : Asked) (which : Which) (number : ℕ) → Agrees old d → Shows old told.request asked told.shown → answer d told asked ≡ Some outcome → Limited (Some old) told.request asked which number
-    → outcome ≡ refused (fault.Limit which number)
-limited old d told outcome (create json) which number agrees shows replied ((fields, takes, limit), none) =
-    same_Some outcome (refused (fault.Limit which number))
-    (sym replied ∙ limited_at d told.request.line told.shown (form json) (no_rows fields).columns which number takes.form takes.built (none_is old d.listed agrees.listed (none old refl)) (shows fields takes ∙ limit))
-limited old d told outcome append which number agrees shows replied reaches =
-    let (m, rows, newest, reads, limit) = reaches old refl in
-    let read = read_on old d told outcome newest.version agrees newest.newest replied in
-    let reply = reply_to old d told.shown told.request.lines outcome m newest (Ok rows) read reads in
-    same_Some outcome (refused (fault.Limit which number)) (sym reply ∙ changed d told.shown rows newest.version read.table read.newest read.at ∙ ap (λ l. Some (within l (after_append d newest.version read.table rows))) (shows m rows newest reads ∙ limit))
-limited old d told outcome scan which number agrees shows replied never = absurd never
-limited old d told outcome schema which number agrees shows replied never = absurd never
+restore_none : (d : Dataset) (told : Told) (version : ℕ) → newest d ≡ None → change_reply d told.shown (after.restore version) ≡ Some (refused fault.NoDataset)
+restore_none d told version none = rw none refl
 
-no_dataset : (old : List Object) (d : Dataset) (told : Told) (outcome : Outcome) (asked : Asked) → Agrees old d → answer d told asked ≡ Some outcome → reads_version asked ≡ true → NoneListed old → outcome ≡ refused fault.NoDataset
+no_dataset : (old : List Object) (d : Dataset) (told : Told) (outcome : Outcome) (asked : Asked) → AgreesWith old d → answer d told asked ≡ Some outcome → needs_dataset asked ≡ true → NoneListed old → outcome ≡ refused fault.NoDataset
 no_dataset old d told outcome (create json) agrees replied reads none = absurd (cc reads)
-no_dataset old d told outcome append agrees replied reads none = none_replied old d (λ t. append_reply d told.shown (rows_of t.columns told.request.lines)) outcome agrees none replied
-no_dataset old d told outcome scan agrees replied reads none = none_replied old d (λ t. Some (done (lines_of t) d)) outcome agrees none replied
-no_dataset old d told outcome schema agrees replied reads none = none_replied old d (λ t. Some (done (schema_text t.columns) d)) outcome agrees none replied
+no_dataset old d told outcome append agrees replied reads none = none_replied old d None (λ t. append_reply d told.shown (rows_of t.columns told.request.lines)) outcome agrees none replied
+no_dataset old d told outcome (restore version) agrees replied reads none = same_Some outcome (refused fault.NoDataset) (sym replied ∙ restore_none d told version (newest_none old d agrees none))
+no_dataset old d told outcome (scan options) agrees replied reads none = none_replied old d options.version (λ t. Some (scan_reply d t (places_asked t.columns options.columns))) outcome agrees none replied
+no_dataset old d told outcome (schema version) agrees replied reads none = none_replied old d version (λ t. Some (done (schema_text t.columns) d)) outcome agrees none replied
+no_dataset old d told outcome versions agrees replied reads none = same_Some outcome (refused fault.NoDataset) (sym replied ∙ ap (λ l. Some (versions_reply d l)) (nothing d.listed (λ v listed. none v listed) agrees.listed)) where
+  nothing : (listed : List ℕ) → ((v : ℕ) → IsListed old v → ⊥) → AreListed old listed → listed ≡ []
+  nothing [] none are = refl
+  nothing (v ∷ vs) none are = absurd (none v (are.only 0 v (omega arith)))
+
+restore_lacks : (d : Dataset) (told : Told) (version n : ℕ) → newest d ≡ Some n → list_any (nat_eq version) d.listed ≡ false → change_reply d told.shown (after.restore version) ≡ Some (refused (fault.NoVersion version n))
+restore_lacks d told version n last not = rw (last, not) refl
+
+no_version : (old : List Object) (d : Dataset) (told : Told) (outcome : Outcome) (asked : Asked) (version n : ℕ) → AgreesWith old d → answer d told asked ≡ Some outcome → LacksVersion asked version n old → outcome ≡ refused (fault.NoVersion version n)
+no_version old d told outcome (create json) version n agrees replied (named, not, is) = absurd (cc named)
+no_version old d told outcome append version n agrees replied (named, not, is) = absurd (cc named)
+no_version old d told outcome (restore number) version n agrees replied (named, not, is) =
+    let same : number ≡ version = same_Some number version named in
+    same_Some outcome (refused (fault.NoVersion version n))
+    (sym replied ∙ ap (λ v. change_reply d told.shown (after.restore v)) same ∙ restore_lacks d told version n (newest_at old d n agrees is) (not_among old d version agrees not))
+no_version old d told outcome (scan options) version n agrees replied (named, not, is) =
+    lacking_replied old d version n (λ t. Some (scan_reply d t (places_asked t.columns options.columns))) outcome agrees not is (ap (λ v. on_version d v (λ t. Some (scan_reply d t (places_asked t.columns options.columns))) (newest d)) (sym named) ∙ replied)
+no_version old d told outcome (schema asked) version n agrees replied (named, not, is) =
+    lacking_replied old d version n (λ t. Some (done (schema_text t.columns) d)) outcome agrees not is (ap (λ v. on_version d v (λ t. Some (done (schema_text t.columns) d)) (newest d)) (sym named) ∙ replied)
+no_version old d told outcome versions version n agrees replied (named, not, is) = absurd (cc named)
+
+no_column : (old : List Object) (d : Dataset) (told : Told) (outcome : Outcome) (asked : Asked) (name : List ℕ) → AgreesWith old d → answer d told asked ≡ Some outcome → LacksColumn asked name old → outcome ≡ refused (fault.NoColumn name)
+no_column old d told outcome (create json) name agrees replied lacks = absurd lacks
+no_column old d told outcome append name agrees replied lacks = absurd lacks
+no_column old d told outcome (restore version) name agrees replied lacks = absurd lacks
+no_column old d told outcome (scan options) name agrees replied (m, is, lacks) =
+    let read = version_read old d options.version m.version (λ t. Some (scan_reply d t (places_asked t.columns options.columns))) outcome agrees is.is_asked replied in
+    let t = read.table in
+    sym (same_Some (scan_reply d t (places_asked t.columns options.columns)) outcome read.reply)
+    ∙ ap (λ c. scan_reply d t (places_asked c options.columns)) (columns_of old m.version t m read.stands is.has) ∙ ap (scan_reply d t) lacks
+no_column old d told outcome (schema version) name agrees replied lacks = absurd lacks
+no_column old d told outcome versions name agrees replied lacks = absurd lacks
 
 -- where there is a reply, no version that is read is outside
-never_outside : (old : List Object) (d : Dataset) (told : Told) (outcome : Outcome) (asked : Asked) (version : ℕ) → Agrees old d → answer d told asked ≡ Some outcome → Reads old asked version → (t : Table) × StandsAt old version t
-never_outside old d told outcome (create json) version agrees replied reads = absurd reads
-never_outside old d told outcome append version agrees replied reads = let read = read_on old d told outcome version agrees reads replied in (read.table, read.stands)
-never_outside old d told outcome scan version agrees replied reads = let read = version_read old d version (λ t. Some (done (lines_of t) d)) outcome agrees reads replied in (read.table, read.stands)
-never_outside old d told outcome schema version agrees replied reads = let read = version_read old d version (λ t. Some (done (schema_text t.columns) d)) outcome agrees reads replied in (read.table, read.stands)
+restore_stands : (old : List Object) (d : Dataset) (told : Told) (outcome : Outcome) (number version : ℕ) → AgreesWith old d → change_reply d told.shown (after.restore number) ≡ Some outcome → IsListed old number → IsNewest old version ⊎ (version ≡ number) → (t : Table) × StandsFor old version t
+restore_stands old d told outcome number version agrees replied listed which =
+    let (n, last) = some_newest old d number agrees listed in
+    let is : IsNewest old n = newest_listed old d (Some n) agrees last in
+    let both = restored_read old d told.shown outcome n number agrees is listed replied in
+    elim which [
+      | inl newest ↦ let same : n ≡ version = omega (arith, is.newest version newest.listed, newest.newest n is.listed) in (both.before, subst (λ v. StandsFor old v both.before) same both.newest_stands)
+      | inr same ↦ (both.table, subst (λ v. StandsFor old v both.table) (sym same) both.stands)
+    ]
 
-pub not_outside : (old : List Object) (d : Dataset) (link : Link) → Agrees old d → IsLink old d link → (version : ℕ) → Reads old link.told.request.asked version → ((t : Table) → StandsAt old version t → ⊥) → ⊥
+never_outside : (old : List Object) (d : Dataset) (told : Told) (outcome : Outcome) (asked : Asked) (version : ℕ) → AgreesWith old d → answer d told asked ≡ Some outcome → Reads old asked version → (t : Table) × StandsFor old version t
+never_outside old d told outcome (create json) version agrees replied reads = absurd reads
+never_outside old d told outcome append version agrees replied reads = let read = version_read old d None version (λ t. append_reply d told.shown (rows_of t.columns told.request.lines)) outcome agrees reads replied in (read.table, read.stands)
+never_outside old d told outcome (restore number) version agrees replied (listed, which) = restore_stands old d told outcome number version agrees replied listed which
+never_outside old d told outcome (scan options) version agrees replied reads = let read = version_read old d options.version version (λ t. Some (scan_reply d t (places_asked t.columns options.columns))) outcome agrees reads replied in (read.table, read.stands)
+never_outside old d told outcome (schema asked) version agrees replied reads = let read = version_read old d asked version (λ t. Some (done (schema_text t.columns) d)) outcome agrees reads replied in (read.table, read.stands)
+never_outside old d told outcome versions version agrees replied reads = absurd reads
+
+pub not_outside : (old : List Object) (d : Dataset) (link : Link) → AgreesWith old d → IsLink old d link → (version : ℕ) → Reads old link.told.request.asked version → ((t : Table) → StandsFor old version t → ⊥) → ⊥
 not_outside old d link agrees is version reads none = let (t, stands) = never_outside old d link.told link.outcome link.told.request.asked version agrees is.replied reads in none t stands
 
 -- the refusals that a reply can be
 abbrev pub IsReplyTo : Fault → Type 0
-IsReplyTo fault.NotBuilt = Unit {0}
 IsReplyTo (fault.BadInput line why) = Unit {0}
 IsReplyTo fault.NoDataset = Unit {0}
 IsReplyTo (fault.AlreadyThere version) = Unit {0}
+IsReplyTo (fault.NoVersion version n) = Unit {0}
+IsReplyTo (fault.NoColumn name) = Unit {0}
 IsReplyTo (fault.Limit which number) = Unit {0}
 IsReplyTo f = ⊥
 
 -- a command that is refused is replied with that refusal
-pub refused_as : (old : List Object) (d : Dataset) (link : Link) (f : Fault) → IsReplyTo f → Agrees old d → IsLink old d link → Cause (Some old) link.told.request f → link.outcome ≡ refused f
-refused_as old d link fault.NotBuilt one agrees is cause = not_built d link.told link.outcome link.told.request.asked is.replied cause
+pub refused_as : (old : List Object) (d : Dataset) (link : Link) (f : Fault) → IsReplyTo f → AgreesWith old d → IsLink old d link → Cause (Some old) link.told.request f → link.outcome ≡ refused f
 refused_as old d link (fault.BadInput line why) one agrees is cause = bad_input old d link.told link.outcome link.told.request.asked (fault.BadInput line why) agrees is.replied cause
 refused_as old d link fault.NoDataset one agrees is cause = no_dataset old d link.told link.outcome link.told.request.asked agrees is.replied cause.0 (cause.1 old refl)
 refused_as old d link (fault.AlreadyThere version) one agrees is cause = already_there old d link.told link.outcome link.told.request.asked version agrees is.replied cause.0 (cause.1 old refl)
-refused_as old d link (fault.Limit which number) one agrees is cause = limited old d link.told link.outcome link.told.request.asked which number agrees is.shows is.replied cause
+refused_as old d link (fault.NoVersion version n) one agrees is cause = no_version old d link.told link.outcome link.told.request.asked version n agrees is.replied (cause.1 old refl)
+refused_as old d link (fault.NoColumn name) one agrees is cause = no_column old d link.told link.outcome link.told.request.asked name agrees is.replied (cause old refl)
+refused_as old d link (fault.Limit which number) one agrees is cause = limited old d link.told link.outcome which number (is_change link.told.request.asked) refl cause.0 agrees is.replied is.shows (cause.1 old refl)
 refused_as old d link f one agrees is cause = absurd one
 
 -- ---- a command that prints rows
@@ -276,52 +248,49 @@ no_bytes held text = none held ∙ ap (λ l. and_then_bytes held l) (sym (nothin
 abbrev pub no_front : (held holds : Option (List ℕ)) (text : List ℕ) → holds ≡ held → GotPart text held holds
 no_front held holds text same = (0, omega arith, same ∙ no_bytes held text)
 
--- the rows of the newest version, where it stands
-record Reading (old : List Object) (outcome : Outcome) (m : PlainManifest) : Type 0 where
-  pub rows : List (List PlainValue)
-  pub reads : RowsOf old m.fields m.fragments rows
-  pub text : text_by single (said_by outcome) ≡ text_of m.fields rows
+-- a front of a front of a text is one of it
+front_more : (text more whole : List ℕ) (held holds : Option (List ℕ)) → whole ≡ text ++ more → GotPart text held holds → GotPart whole held holds
+front_more text more whole held holds is (k, within, got) =
+    (k, omega (arith, within, ap length is, length-append text more), got ∙ ap (λ l. and_then_bytes held l) (sym (take_within text more k within)) ∙ ap (λ l. and_then_bytes held (take k l)) (sym is))
 
-scan_reading : (old : List Object) (d : Dataset) (told : Told) (outcome : Outcome) (m : PlainManifest) → Agrees old d → answer d told scan ≡ Some outcome → NewestManifest old m → Reading old outcome m
-scan_reading old d told outcome m agrees replied n =
-    let read = version_read old d n.version (λ t. Some (done (lines_of t) d)) outcome agrees n.newest replied in
+whole_front : (text more whole : List ℕ) (held holds : Option (List ℕ)) → whole ≡ text ++ more → holds ≡ and_then_bytes held text → GotPart whole held holds
+whole_front text more whole held holds is got =
+    front_more text more whole held holds is (length text, omega arith, got ∙ ap (λ l. and_then_bytes held l) (sym (take_all (length text) text (omega arith))))
+
+-- what is replied to a scan begins with the lines of the first rows
+record Reading (outcome : Outcome) (text : List ℕ) : Type 0 where
+  pub more : List ℕ
+  pub is : text_by single (said_by outcome) ≡ text ++ more
+
+scan_reading : (old : List Object) (d : Dataset) (told : Told) (outcome : Outcome) (options : Options) (P : List ℕ → Type 0) → AgreesWith old d → answer d told (scan options) ≡ Some outcome → (p : OnFront old options P) → Reading outcome (lines_at (map unnumbered p.manifest.fields) p.places p.rows)
+scan_reading old d told outcome options P agrees replied p =
+    let m = p.manifest in
+    let read = version_read old d options.version m.version (λ t. Some (scan_reply d t (places_asked t.columns options.columns))) outcome agrees p.reads.manifest.is_asked replied in
     let t = read.table in
-    let same = manifest_one old n.version read.stands.manifest m read.stands.reads n.reads in
+    let has = p.reads.manifest.has in
+    let columns : List Column = map unnumbered m.fields in
+    let (later, front) = scanned_front old m.version t m p.places p.rows p.front has read.stands in
+    let is : scan_reply d t (places_asked t.columns options.columns) ≡ done (lines_at columns p.places (scan_of t p.places)) d = scan_text d t columns options p.places (scan_of t p.places) (columns_of old m.version t m read.stands has) p.reads.places_are refl in
     record {
-      rows = t.rows;
-      reads = subst (λ m. RowsOf old m.fields m.fragments t.rows) same read.stands.rows;
-      text = ap (λ o. text_by single (said_by o)) (sym (same_Some (done (lines_of t) d) outcome read.reply)) ∙ same_lines old n.version t m t.rows read.stands n.reads refl;
+      more = lines_at columns p.places later;
+      is = ap (λ o. text_by single (said_by o)) (sym (same_Some (scan_reply d t (places_asked t.columns options.columns)) outcome read.reply) ∙ is) ∙ ap (lines_at columns p.places) front ∙ flat_map-append (line_of (fields_at columns p.places)) p.rows later;
     }
 
-reading_of : (old : List Object) (d : Dataset) (told : Told) (outcome : Outcome) (m : PlainManifest) (asked : Asked) → Agrees old d → answer d told asked ≡ Some outcome → prints_rows asked ≡ true → NewestManifest old m → Reading old outcome m
-reading_of old d told outcome m (create json) agrees replied prints n = absurd (cc prints)
-reading_of old d told outcome m append agrees replied prints n = absurd (cc prints)
-reading_of old d told outcome m scan agrees replied prints n = scan_reading old d told outcome m agrees replied n
-reading_of old d told outcome m schema agrees replied prints n = absurd (cc prints)
-
 -- the sink got a front of what is replied
-pub rows_front : (old : List Object) (d : Dataset) (link : Link) (held holds : Option (List ℕ)) → Agrees old d → IsLink old d link → prints_rows link.told.request.asked ≡ true → PrintsRows held holds old → GotPart (text_by single (said_by link.outcome)) held holds
-rows_front old d link held holds agrees is prints (inl same) = no_front held holds (text_by single (said_by link.outcome)) same
-rows_front old d link held holds agrees is prints (inr p) =
-    let r = reading_of old d link.told link.outcome p.manifest link.told.request.asked agrees is.replied prints p.newest in
-    let written = p.newest.reads.reads.written in
-    subst (λ text. GotPart text held holds) (sym r.text) (lines_front old p.manifest (line_of (map unnumbered p.manifest.fields)) held holds r.rows written.columns written.files r.reads p.got)
+pub rows_front : (old : List Object) (d : Dataset) (link : Link) (options : Options) (held holds : Option (List ℕ)) → AgreesWith old d → IsLink old d link → link.told.request.asked ≡ scan options → PrintsRows held holds options old → GotPart (text_by single (said_by link.outcome)) held holds
+rows_front old d link options held holds agrees is asked (inl same) = no_front held holds (text_by single (said_by link.outcome)) same
+rows_front old d link options held holds agrees is asked (inr p) =
+    let r = scan_reading old d link.told link.outcome options (λ text. holds ≡ and_then_bytes held text) agrees (subst (λ a. answer d link.told a ≡ Some link.outcome) asked is.replied) p in
+    whole_front (lines_at (map unnumbered p.manifest.fields) p.places p.rows) r.more (text_by single (said_by link.outcome)) held holds r.is p.got
 
-pub bytes_front : (old : List Object) (d : Dataset) (link : Link) (held holds : Option (List ℕ)) → Agrees old d → IsLink old d link → prints_rows link.told.request.asked ≡ true → PrintsBytes held holds old → GotPart (text_by single (said_by link.outcome)) held holds
-bytes_front old d link held holds agrees is prints p =
-    let r = reading_of old d link.told link.outcome p.manifest link.told.request.asked agrees is.replied prints p.newest in
-    let written = p.newest.reads.reads.written in
-    subst (λ text. GotPart text held holds) (sym r.text) (cut_front old p.manifest (line_of (map unnumbered p.manifest.fields)) held holds r.rows written.columns written.files r.reads p.got)
-
-rows_none_as : (old : List Object) (r : Request) (asked : Asked) (outcome : Outcome) (puts : List Object) → r.asked ≡ asked → prints_rows asked ≡ true → PutsBy old r outcome puts → puts ≡ []
-rows_none_as old r asked (refused f) puts is prints none = none
-rows_none_as old r asked (done text later) puts is prints put = go asked prints (subst (λ a. Puts old r a puts) is put) where
-  go : (asked : Asked) → prints_rows asked ≡ true → Puts old r asked puts → puts ≡ []
-  go (create json) prints put = absurd (cc prints)
-  go append prints put = absurd (cc prints)
-  go scan prints put = put
-  go schema prints put = absurd (cc prints)
+pub bytes_front : (old : List Object) (d : Dataset) (link : Link) (options : Options) (held holds : Option (List ℕ)) → AgreesWith old d → IsLink old d link → link.told.request.asked ≡ scan options → PrintsBytes held holds options old → GotPart (text_by single (said_by link.outcome)) held holds
+bytes_front old d link options held holds agrees is asked p =
+    let r = scan_reading old d link.told link.outcome options (λ text. GotPart text held holds) agrees (subst (λ a. answer d link.told a ≡ Some link.outcome) asked is.replied) p in
+    front_more (lines_at (map unnumbered p.manifest.fields) p.places p.rows) r.more (text_by single (said_by link.outcome)) held holds r.is p.got
 
 -- it puts nothing
-pub rows_none : (old : List Object) (d : Dataset) (link : Link) → IsLink old d link → prints_rows link.told.request.asked ≡ true → link.puts ≡ []
-rows_none old d link is prints = rows_none_as old link.told.request link.told.request.asked link.outcome link.puts refl prints is.puts
+pub rows_none : (old : List Object) (d : Dataset) (link : Link) (options : Options) → IsLink old d link → link.told.request.asked ≡ scan options → link.puts ≡ []
+rows_none old d link options is asked = go link.outcome is.puts where
+  go : (outcome : Outcome) → PutsBy old link.told.request outcome link.puts → link.puts ≡ []
+  go (refused f) none = none
+  go (done text later) put = subst (λ a. MatchBool (is_change a) ((c : Change) × AsksChange old link.told.request a c × (link.puts ≡ puts_of old c)) (link.puts ≡ [])) asked put

@@ -6,10 +6,10 @@ use Rattle.std.proofs.lemmas.Option.{same_Some}
 use Rattle.lan_store.specs.Objects.{and_then}
 use Rattle.lan_store.specs.Streams.{and_then_bytes}
 use Rattle.lan_store.specs.declared.name.Object.{Object}
-use Rattle.lance_cli.specs.Commands.{Asked, Request}
+use Rattle.lance_cli.specs.Commands.{Asked, Request, asked_of}
 use Rattle.lance_cli.specs.Laws.{ServedAlone, IsOfOne}
 use Rattle.lance_cli.specs.Puts.{IsAccepted}
-use Rattle.lance_cli.specs.Replies.{Mode, single, batch, generate, text_by, Tells, alone, asked_of}
+use Rattle.lance_cli.specs.Replies.{Mode, single, batch, generate, text_by, Tells, alone}
 use Rattle.lance_cli.specs.Runs.{Entry, OnTrail, NoneLeft, NextRefused, Ran}
 use Rattle.lance_cli.specs.Served.{Served}
 use Rattle.lance_cli.specs.Steps.{Step, Trail, requests_in, put_in, said_in}

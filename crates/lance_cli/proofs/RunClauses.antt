@@ -9,17 +9,18 @@ use Rattle.std.proofs.lemmas.Option.{same_Some}
 use Rattle.lan_model.specs.Dataset.{Dataset}
 use Rattle.lan_rows.specs.Lines.{cut}
 use Rattle.lan_store.specs.Objects.{and_then}
-use Rattle.lan_store.specs.Streams.{and_then_bytes}
+use Rattle.lan_store.specs.Streams.{and_then_bytes, TookFront}
 use Rattle.lan_store.specs.declared.name.Object.{Object}
-use Rattle.lan_read.proofs.LawTerms.{stands_more}
+use Rattle.lan_read.proofs.LawTerms.{table_stays}
 use Rattle.lance_cli.specs.Chain.{Link, outcomes_of}
 use Rattle.lance_cli.specs.Changes.{Change}
-use Rattle.lance_cli.specs.Commands.{Asked, create, append, scan, schema, reads_input, Request}
+use Rattle.lance_cli.specs.Commands.{Asked, create, append, restore, scan, schema, versions, asked_of, reads_input, Request}
 use Rattle.lance_cli.specs.Inputs.{IsInput, ReadsInput, TakesText}
-use Rattle.lance_cli.specs.Replies.{Mode, single, answer_to, alone, asked_of}
+use Rattle.lance_cli.specs.Replies.{Mode, single, answer_to, alone}
 use Rattle.lance_cli.specs.Runs.{Entry, wants_input, heard, IsLong, Keeps, Kept, IsRun, Done, IsDone, StoppedIn, Stops, Moments, expected, Decided, OnTrail, NoneLeft, NextRefused, Ran, Ordered, TakenToEnd, TakenBy}
 use Rattle.lance_cli.specs.Puts.{Accepts}
-use Rattle.lance_cli.specs.Served.{Applied, Stopped, WriteFails, Served}
+use Rattle.lance_cli.specs.Served.{Applied, Stopped, WithText, WriteFails, Served}
+use Rattle.lance_cli.specs.Reports.{GotPart}
 use Rattle.lance_cli.specs.Steps.{Step}
 use Rattle.lan_store.specs.Telling.{Telling}
 use Rattle.lance_cli.specs.Words.{ByWords, WordsFirst}
@@ -31,7 +32,7 @@ use Rattle.lance_cli.proofs.OneLink.{One, one_of, link_done, link_stopped, link_
 -- ---- what stood
 
 keeps : (old new more : List Object) → new ≡ old ++ more → Keeps old new
-keeps old new more is = record { grew = (more, is); stands = λ version t stands. rw is (stands_more old more version t stands) }
+keeps old new more is = record { grew = (more, is); stands = λ version t stands. rw is (table_stays old more version t stands) }
 
 told_keeps : (old more : List Object) (now : Option (List Object)) → now ≡ Some (old ++ more) → IsSomeAnd now (Keeps old)
 told_keeps old more now is = rw is (keeps old (old ++ more) more refl)
@@ -46,13 +47,20 @@ stopped_kept : (c : Change) (r : Request) (cut : ℕ → ℕ → Type 0) → Sto
 stopped_kept c r cut (inl same) = unchanged_kept c.before c.now same
 stopped_kept c r cut (inr applied) = λ old was. applied_keeps c r cut old (applied old was)
 
-write_kept : (b : Bool) (c : Change) (r : Request) → WriteFails b c r → Kept c.before c.now
-write_kept false c r fails = λ old was. applied_keeps c r (λ k n. k ≡ n) old (fails old was).0
-write_kept true c r fails = unchanged_kept c.before c.now fails.0
+text_kept : (c : Change) (r : Request) → WithText c r (λ text. GotPart text c.held c.holds) → Kept c.before c.now
+text_kept c r fails = λ old was. applied_keeps c r (λ k n. k ≡ n) old (fails old was).0
+
+write_kept : (asked : Asked) (c : Change) (r : Request) → WriteFails asked c r → Kept c.before c.now
+write_kept (scan options) c r fails = unchanged_kept c.before c.now fails.0
+write_kept (create json) c r fails = text_kept c r fails
+write_kept append c r fails = text_kept c r fails
+write_kept (restore version) c r fails = text_kept c r fails
+write_kept (schema version) c r fails = text_kept c r fails
+write_kept versions c r fails = text_kept c r fails
 
 pub served_kept : (c : Change) (r : Request) (result : Result Unit Fault) → Served c r result → Kept c.before c.now
 served_kept c r (Ok t) served = λ old was. applied_keeps c r (λ k n. k ≡ n) old (served old was).0
-served_kept c r (Err fault.WriteFault) served = write_kept _ c r served
+served_kept c r (Err fault.WriteFault) served = write_kept r.asked c r served
 served_kept c r (Err (fault.StoreFault name)) served = stopped_kept c r (λ k n. k ≤ n) served.0
 served_kept c r (Err fault.Memory) served = stopped_kept c r (λ k n. k < n) served.0
 served_kept c r (Err (fault.Raced name)) served = stopped_kept c r (λ k n. k < n) served.1
@@ -62,16 +70,15 @@ served_kept c r (Err (fault.BadInput line why)) served = unchanged_kept c.before
 served_kept c r (Err fault.InputTooLong) served = absurd served.0
 served_kept c r (Err fault.NoDataset) served = unchanged_kept c.before c.now served.1
 served_kept c r (Err (fault.AlreadyThere version)) served = unchanged_kept c.before c.now served.1
-served_kept c r (Err (fault.NoVersion asked newest)) served = absurd served.0
+served_kept c r (Err (fault.NoVersion asked newest)) served = unchanged_kept c.before c.now served.1
 served_kept c r (Err (fault.RowOutOfRange row rows)) served = absurd served.0
-served_kept c r (Err (fault.NoColumn name)) served = absurd served.0
+served_kept c r (Err (fault.NoColumn name)) served = unchanged_kept c.before c.now served.1
 served_kept c r (Err (fault.ColumnThere name)) served = absurd served.0
 served_kept c r (Err (fault.LastColumn name)) served = absurd served.0
 served_kept c r (Err (fault.NoNullable name)) served = absurd served.0
 served_kept c r (Err (fault.CountDiffers rows lines)) served = absurd served.0
 served_kept c r (Err (fault.Limit which number)) served = unchanged_kept c.before c.now served.1
 served_kept c r (Err fault.ReadFault) served = absurd served.0
-served_kept c r (Err fault.NotBuilt) served = unchanged_kept c.before c.now served.1
 
 -- ---- the words and the input
 
@@ -139,7 +146,7 @@ over_one e now held holds asked left text is takes served = λ old was.
       mode = single;
       steps = step ∷ [];
       left = [];
-      went = record { tells = (is, refl); trail = ((λ all told. subst (λ l. Accepts l (alone asked text.items) asked a.puts a.text) (same_Some old all (sym was ∙ told)) a.accepted), refl, tt) };
+      went = record { tells = (is, refl); trail = ((λ all told. subst (λ l. Accepts l (alone asked text.items) a.puts a.text) (same_Some old all (sym was ∙ told)) a.accepted), refl, tt) };
       holds = (
         refl,
         a.grew ∙ ap (λ l. Some (old ++ l)) (take_all a.k a.puts (omega (arith, a.stopped))) ∙ sym (ap (λ o. and_then o a.puts) was) ∙ ap (λ l. and_then e.objects l) (sym (append-nil a.puts)),
@@ -245,6 +252,24 @@ unasked_order e before none fault.Usage early = (refl, inl refl)
 unasked_order e before none fault.InputTooLong early = absurd (wants_none e none early.0)
 unasked_order e before none f (asked, is, by_words) = absurd (cc (sym none ∙ is))
 
+-- memory ran short before anything was read
+pub short_ran : (e : Entry) (held : Option (List ℕ)) → Ran e e.objects held held (Err fault.Memory)
+short_ran e held = inl (record { objects = refl; sink = refl })
+
+pub short_stops : (e : Entry) (held : Option (List ℕ)) → Stops e e.objects held held (Err fault.Memory)
+short_stops e held = λ old was input told mode d links r. inl (tt, record { objects = was; sink = refl })
+
+pub short_order : (e : Entry) (before : Telling) → Ordered e before before (Err fault.Memory)
+short_order e before f early = (refl, inr (inr refl))
+
+none_taken : (given : Option (List ℕ)) → TookFront given given
+none_taken None = (0, refl)
+none_taken (Some input) = (0, refl)
+
+pub short_takes : (b : Bool) (given : Option (List ℕ)) → TakenBy b given given (Err fault.Memory)
+short_takes true given = λ input told. none_taken given
+short_takes false given = refl
+
 -- why the input wasn't read
 pub record Unread (e : Entry) (asked : Asked) (left : Option (List ℕ)) (f : Fault) : Type 0 where
   pub is : asked_of e.words ≡ Some asked
@@ -290,11 +315,12 @@ unread_decided e asked left f u = absurd u.takes
 -- a command that reads input decides nothing by its own words
 no_words : (asked : Asked) (f : Fault) → reads_input asked ≡ true → ByWords asked 0 f → ⊥
 no_words (create json) f reads by_words = cc reads
-no_words append fault.NotBuilt reads by_words = by_words
 no_words append (fault.BadInput line why) reads by_words = by_words
 no_words append f reads by_words = absurd by_words
-no_words scan f reads by_words = cc reads
-no_words schema f reads by_words = cc reads
+no_words (restore version) f reads by_words = cc reads
+no_words (scan options) f reads by_words = cc reads
+no_words (schema version) f reads by_words = cc reads
+no_words versions f reads by_words = cc reads
 
 pub unread_order : (e : Entry) (asked : Asked) (left : Option (List ℕ)) (before : Telling) (f : Fault) → Unread e asked left f → Ordered e before before (Err f)
 unread_order e asked left before f u fault.Usage early = absurd (cc (sym u.is ∙ early))

@@ -1,27 +1,31 @@
 -- How much a command asks of the store.
-use Rattle.std.specs.Prelude.{◌*◌, ◌⊎◌, List, length, Option, Some, None}
+use Rattle.std.specs.Prelude.{◌≡◌, ℕ, List, map, Option, Some, None, Ok}
 use Rattle.std.specs.Option.{ForSome}
+use Rattle.lan_model.specs.Plain.{unnumbered}
+use Rattle.lan_model.specs.Table.{Table}
 use Rattle.lan_store.specs.Budget.{Budget, nothing, ranges, plus, Asks}
 use Rattle.lan_store.specs.Telling.{Telling}
 use Rattle.lan_store.specs.declared.name.Object.{Object}
-use Rattle.lan_manifest.specs.Manifests.{PlainManifest}
-use Rattle.lance_cli.specs.Commands.{Asked, create, append, scan, schema}
-use Rattle.lance_cli.specs.Served.{OnNewest}
+use Rattle.lan_manifest.specs.Manifests.{plain_manifest}
+use Rattle.lan_manifest.specs.declared.manifest.Manifest.{Manifest}
+use Rattle.lan_read.specs.Scans.{ScanDue, scan_start}
+use Rattle.lance_cli.specs.Commands.{Asked, create, append, restore, scan, schema, versions}
+use Rattle.lance_cli.specs.Options.{Options}
+use Rattle.lance_cli.specs.Scanning.{IsScanned}
 
--- all of a version is read: its manifest, and of each fragment's file four ranges
-abbrev pub of_version : PlainManifest → Budget
-of_version m = plus (ranges 1) (ranges (4 * length m.fragments))
+-- where the version stands that is asked for, its manifest, and what its rows are due in the asked columns: of each fragment the heads of the
+-- files that are used, and of each page of an asked leaf its index, and its pieces once
+abbrev pub AsksRows : Options → Telling → Telling → List Object → Type 0
+AsksRows options before now all = (m : Manifest) (places : List ℕ) (due : Budget) → IsScanned all options.version options.columns (plain_manifest m) places → ScanDue all (scan_start m places) due → Asks (plus (ranges 1) due) before now
 
--- the newest manifest alone, or where it reads, all of its version
-abbrev pub AsksRows : List Object → Telling → Telling → Type 0
-AsksRows all before now = Asks (ranges 1) before now ⊎ OnNewest all (λ m. Asks (of_version m) before now)
-
--- what a command may ask: one that reads no version nothing, one that prints rows all of the newest version, and the others its manifest
+-- what a command may ask: the manifests that it reads, and one that prints rows what these are due
 abbrev pub AsksFor : Asked → Telling → Telling → Type 0
 AsksFor (create json) before now = Asks nothing before now
 AsksFor append before now = Asks (ranges 1) before now
-AsksFor scan before now = ForSome before.objects (λ all. AsksRows all before now)
-AsksFor schema before now = Asks (ranges 1) before now
+AsksFor (restore version) before now = Asks (ranges 2) before now
+AsksFor (scan options) before now = ForSome before.objects (AsksRows options before now)
+AsksFor (schema version) before now = Asks (ranges 1) before now
+AsksFor versions before now = Asks nothing before now
 
 -- words that ask for no command ask nothing
 abbrev pub AsksBy : Option Asked → Telling → Telling → Type 0

@@ -2,7 +2,7 @@
 use Rattle.std.specs.Prelude.{◌≡◌, ℕ, ◌+◌, ◌≤◌, Bool, true, false, ◌&&◌, MatchBool, List, [], ◌∷◌, ◌++◌, length, take, map, filter, flat_map, Some}
 use Rattle.lan_model.specs.Dataset.{Dataset}
 use Rattle.lan_store.specs.declared.name.Object.{Object}
-use Rattle.lan_read.specs.Standing.{Agrees}
+use Rattle.lan_read.specs.Tables.{AgreesWith}
 use Rattle.lance_cli.specs.Commands.{Request, is_change}
 use Rattle.lance_cli.specs.Puts.{Puts, Shows}
 use Rattle.lance_cli.specs.Replies.{Told, Outcome, refused, done, reply, Mode, said_by, goes_on, left_by, left_after}
@@ -16,11 +16,11 @@ pub record Link : Type 0 where
 -- a refusal puts nothing
 abbrev pub PutsBy : List Object → Request → Outcome → List Object → Type 0
 PutsBy objects r (refused f) puts = puts ≡ []
-PutsBy objects r (done text later) puts = Puts objects r r.asked puts
+PutsBy objects r (done text later) puts = Puts objects r puts
 
 -- the link is of its command on these objects, which stand for this dataset
 pub record IsLink (objects : List Object) (d : Dataset) (link : Link) : Type 0 where
-  pub shows : Shows objects link.told.request link.told.request.asked link.told.shown
+  pub shows : Shows objects link.told.request link.told.shown
   pub replied : reply d link.told ≡ Some link.outcome
   pub puts : PutsBy objects link.told.request link.outcome link.puts
 
@@ -52,6 +52,6 @@ after_changes d links m = left_after d (outcomes_of (take m (changes links)))
 -- the objects stand for the dataset after the first m accepted changes, which lists m versions more, and have a front of the puts more
 pub record IsFront (old : List Object) (d : Dataset) (links : List Link) (m : ℕ) (part : List Object) : Type 0 where
   pub within : m ≤ length (changes links)
-  pub agrees : Agrees part (after_changes d links m)
+  pub agrees : AgreesWith part (after_changes d links m)
   pub listed : length (after_changes d links m).listed ≡ length d.listed + m
   pub puts : (k : ℕ) × (k ≤ length (puts_of links)) × (part ≡ old ++ take k (puts_of links))

@@ -4,25 +4,19 @@ use Rattle.json.specs.Print.{quoted}
 use Rattle.lan_store.specs.Paths.{path}
 use Rattle.lance_cli.specs.declared.fault.Fault.{Fault}
 use Rattle.lance_cli.specs.declared.fault.Fault.TheVariants as fault
-use Rattle.lan_file.specs.declared.fault.FileReason.{FileReason}
-use Rattle.lan_file.specs.declared.fault.FileReason.TheVariants as file
 use Rattle.lan_form.specs.Why.{why}
 use Rattle.lan_form.specs.declared.faults.FormFault.{FormFault}
 use Rattle.lan_form.specs.declared.faults.FormFault.TheVariants as form
 use Rattle.lan_rows.specs.Why.{why_line}
 use Rattle.lan_rows.specs.declared.lines.LinesFault.{LinesFault}
 use Rattle.lan_rows.specs.declared.lines.LinesFault.TheVariants as lines
-use Rattle.lan_read.specs.declared.fault.PlainReadFault.{PlainReadFault}
-use Rattle.lan_read.specs.declared.fault.PlainReadFault.TheVariants as unread
+use Rattle.lan_read.specs.declared.read_fault.ReadFault.{ReadFault}
+use Rattle.lan_read.specs.declared.read_fault.ReadFault.TheVariants as unread
 use Rattle.lan_commit.specs.declared.committing.CommitFault.{CommitFault}
 use Rattle.lan_commit.specs.declared.committing.CommitFault.TheVariants as unmade
-use Rattle.lan_scan.specs.declared.scanning.ScanFault.{ScanFault}
-use Rattle.lan_scan.specs.declared.scanning.ScanFault.TheVariants as unscanned
-use Rattle.lan_read.specs.declared.fault.ManifestReason.TheVariants as manifest
-use Rattle.lan_read.specs.declared.fault.PlainReason.{PlainReason}
-use Rattle.lan_read.specs.declared.fault.PlainReason.TheVariants as reason
 use Rattle.lan_commit.specs.declared.limits.Which.{Which}
 use Rattle.lan_commit.specs.declared.limits.Which.TheVariants as limit
+use Rattle.lance_cli.specs.ReasonCodes.{code_of}
 
 abbrev pub status_of : Fault → ℕ
 status_of fault.Usage = 2
@@ -44,7 +38,6 @@ status_of (fault.StoreFault name) = 17
 status_of fault.ReadFault = 18
 status_of fault.WriteFault = 19
 status_of fault.Memory = 20
-status_of fault.NotBuilt = 21
 
 -- the limit's name
 abbrev pub which_text : Which → List ℕ
@@ -56,27 +49,6 @@ which_text limit.Version = codes "version"
 which_text limit.FileNumber = codes "file number"
 which_text limit.DeletionId = codes "deletion id"
 which_text limit.ObjectBytes = codes "object bytes"
-
--- the code of a reason of a data file
-abbrev pub file_code : FileReason → List ℕ
-file_code file.Missing = codes "missing"
-file_code file.Size = codes "size"
-file_code file.Short = codes "short"
-file_code file.TooShort = codes "file-short"
-file_code file.Magic = codes "file-magic"
-file_code (file.Version major minor) = codes "file-version " ++ (decimal major ++ (codes " " ++ decimal minor))
-file_code file.Region = codes "file-region"
-file_code file.Descriptor = codes "file-descriptor"
-file_code file.Plain = codes "file-plain"
-file_code (file.Rows stated asked) = codes "file-rows " ++ (decimal stated ++ (codes " " ++ decimal asked))
-
--- the code of a reason
-abbrev pub reason_code : PlainReason → List ℕ
-reason_code reason.Missing = codes "missing"
-reason_code reason.Size = codes "size"
-reason_code reason.Short = codes "short"
-reason_code (reason.Manifest manifest.Plain) = codes "manifest-plain"
-reason_code (reason.File why) = file_code why
 
 -- the words that the program prints
 abbrev pub fault_text : Fault → List ℕ
@@ -93,17 +65,17 @@ fault_text (fault.LastColumn name) = codes "last column " ++ quoted name
 fault_text (fault.NoNullable name) = codes "column " ++ (quoted name ++ codes " is not nullable")
 fault_text (fault.CountDiffers rows lines) = decimal rows ++ (codes " rows but " ++ (decimal lines ++ codes " lines"))
 fault_text (fault.Limit which number) = codes "limit: " ++ (which_text which ++ (codes " is " ++ decimal number))
-fault_text (fault.Outside object why place) = codes "outside: " ++ (path object ++ (codes ": " ++ (reason_code why ++ (codes " at " ++ decimal place))))
+fault_text (fault.Outside object why place) = codes "outside: " ++ (path object ++ (codes ": " ++ (code_of why ++ (codes " at " ++ decimal place))))
 fault_text (fault.Raced name) = codes "raced: " ++ path name
 fault_text (fault.StoreFault name) = codes "store failed: " ++ path name
 fault_text fault.ReadFault = codes "input failed"
 fault_text fault.WriteFault = codes "output failed"
 fault_text fault.Memory = codes "out of memory"
-fault_text fault.NotBuilt = codes "not built"
 
--- the faults of reading, of a change and of printing, as the program's own
-abbrev pub of_read : PlainReadFault → Fault
+-- the faults of reading and of a change, as the program's own
+abbrev pub of_read : ReadFault → Fault
 of_read unread.NoDataset = fault.NoDataset
+of_read (unread.NoVersion asked newest) = fault.NoVersion asked newest
 of_read (unread.Outside name why place) = fault.Outside name why place
 of_read (unread.Store name) = fault.StoreFault name
 of_read unread.Memory = fault.Memory
@@ -124,9 +96,3 @@ abbrev pub of_lines : LinesFault → Fault
 of_lines (lines.Bad number f) = fault.BadInput number (why_line (lines.Bad number f))
 of_lines (lines.LineTooLong number) = fault.BadInput number (why_line (lines.LineTooLong number))
 of_lines lines.Memory = fault.Memory
-
-abbrev pub of_scan : ScanFault → Fault
-of_scan (unscanned.Outside name why place) = fault.Outside name (reason.File why) place
-of_scan (unscanned.Store name) = fault.StoreFault name
-of_scan unscanned.Write = fault.WriteFault
-of_scan unscanned.Memory = fault.Memory

@@ -1,23 +1,23 @@
 -- Laws of runs.
-use Rattle.std.specs.Prelude.{◌≡◌, ◌⊎◌, ℕ, ◌≤◌, ⊤, true, List, ◌++◌, length, take, map, All, IsSome, Option, Some, Result, Ok, Err}
+use Rattle.std.specs.Prelude.{◌≡◌, ◌⊎◌, ℕ, ◌^◌, ◌<◌, ◌≤◌, ⊤, List, ◌++◌, length, take, map, IsSome, Option, Some, Result, Ok, Err}
 use Rattle.std.specs.Option.{ForSome}
 use Rattle.lan_model.specs.Dataset.{Dataset, table_at}
 use Rattle.lan_model.specs.Plain.{PlainValue, unnumbered}
-use Rattle.lan_model.specs.Table.{Column, Table, FitsRow}
+use Rattle.lan_model.specs.Table.{Column, Table}
 use Rattle.lan_form.specs.Form.{form}
 use Rattle.lan_rows.specs.Lines.{rows_of}
 use Rattle.lan_store.specs.declared.name.Object.{Object}
 use Rattle.lan_manifest.specs.Manifests.{PlainManifest}
-use Rattle.lan_read.specs.Newest.{NewestManifest}
-use Rattle.lan_read.specs.Standing.{StandsAt, Agrees}
+use Rattle.lan_read.specs.Snapshots.{IsNewestManifest}
+use Rattle.lan_read.specs.Tables.{StandsFor, AgreesWith}
+use Rattle.lan_commit.specs.Shredded.{CanBeWritten}
 use Rattle.lance_cli.specs.Causes.{Reads}
 use Rattle.lance_cli.specs.Chain.{Link, IsLink, Chain, outcomes_of, puts_of, IsFront}
-use Rattle.lance_cli.specs.Commands.{Asked, create, append, scan, schema, Request}
+use Rattle.lance_cli.specs.Commands.{Asked, create, append, asked_of, Request}
 use Rattle.lance_cli.specs.Creates.{IsTaken}
-use Rattle.lance_cli.specs.Replies.{Told, Mode, single, batch, Replied, replies, outcomes, left_after, alone, asked_of}
+use Rattle.lance_cli.specs.Replies.{Told, Mode, single, batch, Replied, replies, outcomes, left_after, alone}
 use Rattle.lance_cli.specs.Runs.{Entry, heard, IsRun, IsBeforeAll, IsUntouched, Ran}
 use Rattle.lance_cli.specs.Served.{Served}
-use Rattle.lance_cli.specs.Stage.{is_built}
 use Rattle.lance_cli.specs.declared.fault.Fault.{Fault}
 
 abbrev pub replied_as : List ℕ → Dataset → Result Unit Fault → Replied
@@ -38,11 +38,11 @@ ChainsAreReplied = (mode : Mode) (objects : List Object) (d : Dataset) (told : L
 
 -- at every step the objects stand for the dataset after the links before it
 abbrev pub StepsAgree : Type 0
-StepsAgree = (mode : Mode) (old : List Object) (d : Dataset) (told : List Told) (before behind : List Link) → Agrees old d → Chain mode old d told (before ++ behind) → Agrees (old ++ puts_of before) (left_after d (outcomes_of before))
+StepsAgree = (mode : Mode) (old : List Object) (d : Dataset) (told : List Told) (before behind : List Link) → AgreesWith old d → Chain mode old d told (before ++ behind) → AgreesWith (old ++ puts_of before) (left_after d (outcomes_of before))
 
 -- each front of a chain's objects stands for the dataset after so many of the accepted changes
 abbrev pub FrontsStand : Type 0
-FrontsStand = (mode : Mode) (old : List Object) (d : Dataset) (told : List Told) (links : List Link) (k : ℕ) → Agrees old d → Chain mode old d told links → k ≤ length (puts_of links) → (m : ℕ) × IsFront old d links m (old ++ take k (puts_of links))
+FrontsStand = (mode : Mode) (old : List Object) (d : Dataset) (told : List Told) (links : List Link) (k : ℕ) → AgreesWith old d → Chain mode old d told links → k ≤ length (puts_of links) → (m : ℕ) × IsFront old d links m (old ++ take k (puts_of links))
 
 -- so many, and no others
 abbrev pub FrontsCount : Type 0
@@ -50,16 +50,15 @@ FrontsCount = (old : List Object) (d : Dataset) (links : List Link) (m n : ℕ) 
 
 -- ---- that there are chains
 
--- what lines are read as fits the newest manifest's fields
-abbrev pub RowsFit : List Object → List (ℕ × List ℕ) → Type 0
-RowsFit objects lines = (m : PlainManifest) (rows : List (List PlainValue)) → NewestManifest objects m → rows_of (map unnumbered m.fields) lines ≡ Ok rows → All (FitsRow m.fields) rows
+-- what lines are read as can be written in the newest manifest's fields
+abbrev pub RowsCanBeWritten : List Object → List (ℕ × List ℕ) → Type 0
+RowsCanBeWritten objects lines = (m : PlainManifest) (rows : List (List PlainValue)) → IsNewestManifest objects m → rows_of (map unnumbered m.fields) lines ≡ Ok rows → CanBeWritten m.fields rows × (length rows < 2 ^ 31)
 
--- what a command's text or lines are read as fits, as the reader of each says of what it reads
+-- what a command's text or lines are read as can be stored, as the reader of each says of what it reads
 abbrev pub IsSound : List Object → Request → Asked → Type 0
-IsSound objects r (create json) = (columns : List Column) → form json ≡ Ok columns → is_built columns ≡ true → IsTaken json
-IsSound objects r append = RowsFit objects r.lines
-IsSound objects r scan = ⊤
-IsSound objects r schema = ⊤
+IsSound objects r (create json) = (columns : List Column) → form json ≡ Ok columns → IsTaken json
+IsSound objects r append = RowsCanBeWritten objects r.lines
+IsSound objects r asked = ⊤
 
 -- each version that the command reads has a table in the dataset
 abbrev pub HasTables : List Object → Dataset → Asked → Type 0
@@ -67,11 +66,11 @@ HasTables objects d asked = (version : ℕ) → Reads objects asked version → 
 
 -- on objects that agree with a dataset, a command has a link where the versions that it reads have tables there
 abbrev pub LinksExist : Type 0
-LinksExist = (objects : List Object) (d : Dataset) (r : Request) → Agrees objects d → IsSound objects r r.asked → HasTables objects d r.asked → (link : Link) × (link.told.request ≡ r) × IsLink objects d link
+LinksExist = (objects : List Object) (d : Dataset) (r : Request) → AgreesWith objects d → IsSound objects r r.asked → HasTables objects d r.asked → (link : Link) × (link.told.request ≡ r) × IsLink objects d link
 
 -- each version that the command reads stands for a table
 abbrev pub AllStand : List Object → Asked → Type 0
-AllStand objects asked = (version : ℕ) → Reads objects asked version → (t : Table) × StandsAt objects version t
+AllStand objects asked = (version : ℕ) → Reads objects asked version → (t : Table) × StandsFor objects version t
 
 -- where the versions that a command reads stand, there is a dataset with which the objects agree, and the command's chain on it
 abbrev pub RunsExist : Type 0

@@ -11,12 +11,14 @@ pub mod Laws
 pub mod Lines
 pub mod Options
 pub mod Plans
+pub mod Printing
 pub mod Puts
 pub mod ReasonCodes
 pub mod Replies
 pub mod Reports
 pub mod Runs
+pub mod Scanning
+pub mod Sending
 pub mod Served
-pub mod Stage
 pub mod Steps
 pub mod Words

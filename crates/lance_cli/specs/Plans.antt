@@ -5,12 +5,11 @@ use Rattle.lan_store.specs.Objects.{and_then}
 use Rattle.lan_store.specs.PutsAll.{HasFirst, IsHeldAt}
 use Rattle.lan_store.specs.Streams.{and_then_bytes}
 use Rattle.lan_store.specs.declared.name.Object.{Object}
-use Rattle.lan_scan.specs.Sending.{GotPart}
+use Rattle.lance_cli.specs.Reports.{GotPart, version_text}
 use Rattle.lance_cli.specs.Causes.{Cause}
 use Rattle.lance_cli.specs.Changes.{Change}
 use Rattle.lance_cli.specs.Commands.{Request}
 use Rattle.lance_cli.specs.Puts.{IsAccepted}
-use Rattle.lance_cli.specs.Reports.{version_text}
 use Rattle.lance_cli.specs.declared.change.Planned.{Planned}
 use Rattle.lance_cli.specs.declared.fault.Fault.{Fault}
 use Rattle.lance_cli.specs.declared.fault.Fault.TheVariants as fault

@@ -5,15 +5,17 @@ use Rattle.lan_model.specs.Table.{Column, Table}
 use Rattle.lan_model.specs.Dataset.{Dataset, newest, table_at}
 use Rattle.lan_model.specs.After as change
 use Rattle.lan_model.specs.After.{after, Command, Refusal}
+use Rattle.std.specs.List.{list_any}
 use Rattle.lan_form.specs.Form.{form}
 use Rattle.lan_form.specs.Judged.{Judged}
+use Rattle.lan_model.specs.Take.{scan_of}
 use Rattle.lan_rows.specs.Line.{line_of}
 use Rattle.lan_rows.specs.Lines.{rows_of, cut}
 use Rattle.lan_rows.specs.declared.lines.LinesFault.{LinesFault}
-use Rattle.lance_cli.specs.Commands.{Asked, create, append, scan, schema, in_words, reads_input, Request}
+use Rattle.lance_cli.specs.Commands.{Asked, create, append, restore, scan, schema, versions, asked_of, reads_input, Request}
 use Rattle.lance_cli.specs.Faults.{status_of, fault_text, of_form, of_lines}
-use Rattle.lance_cli.specs.Reports.{version_text, schema_text}
-use Rattle.lance_cli.specs.Stage.{is_taken, is_built}
+use Rattle.lance_cli.specs.Reports.{version_text, schema_text, versions_text}
+use Rattle.lance_cli.specs.Scanning.{lines_at, places_asked}
 use Rattle.lance_cli.specs.declared.fault.Fault.{Fault}
 use Rattle.lance_cli.specs.declared.fault.Fault.TheVariants as fault
 use Rattle.lan_commit.specs.declared.limits.Which.{Which}
@@ -59,23 +61,38 @@ change_reply d shown command = option_map (changed_to shown) (after d command)
 
 -- the words are a line of the command's own
 abbrev pub create_reply : Dataset → ℕ → Shown → Judged (List Column) → Option Outcome
-create_reply d line shown (Ok columns) = cond (is_built columns) (change_reply d shown (change.create columns)) (Some (refused fault.NotBuilt))
+create_reply d line shown (Ok columns) = change_reply d shown (change.create columns)
 create_reply d line shown (Err f) = Some (refused (of_form line f))
 
 abbrev pub append_reply : Dataset → Shown → Result (List (List PlainValue)) LinesFault → Option Outcome
 append_reply d shown (Ok rows) = change_reply d shown (change.append rows)
 append_reply d shown (Err f) = Some (refused (of_lines f))
 
--- what reads the newest version: a refusal where none is listed, and nothing where it doesn't stand
-abbrev pub on_version : Dataset → (Table → Option Outcome) → Option ℕ → Option Outcome
-on_version d read None = Some (refused fault.NoDataset)
-on_version d read (Some version) = option_and_then read (table_at d version)
+-- the lines of the table's rows, in the columns at these places
+abbrev pub scan_reply : Dataset → Table → Result (List ℕ) Refusal → Outcome
+scan_reply d t (Ok places) = done (lines_at t.columns places (scan_of t places)) d
+scan_reply d t (Err refusal) = refused (fault_of refusal)
+
+abbrev pub versions_reply : Dataset → List ℕ → Outcome
+versions_reply d [] = refused fault.NoDataset
+versions_reply d (version ∷ listed) = done (versions_text (version ∷ listed)) d
+
+-- what reads the version of a number, or the newest: a refusal where it isn't listed, and nothing where it doesn't stand
+abbrev pub on_listed : Dataset → (Table → Option Outcome) → ℕ → Option ℕ → Option Outcome
+on_listed d read newest None = option_and_then read (table_at d newest)
+on_listed d read newest (Some version) = cond (list_any (nat_eq version) d.listed) (option_and_then read (table_at d version)) (Some (refused (fault.NoVersion version newest)))
+
+abbrev pub on_version : Dataset → Option ℕ → (Table → Option Outcome) → Option ℕ → Option Outcome
+on_version d asked read None = Some (refused fault.NoDataset)
+on_version d asked read (Some newest) = on_listed d read newest asked
 
 abbrev pub answer : Dataset → Told → Asked → Option Outcome
 answer d told (create json) = create_reply d told.request.line told.shown (form json)
-answer d told append = on_version d (λ t. append_reply d told.shown (rows_of t.columns told.request.lines)) (newest d)
-answer d told scan = on_version d (λ t. Some (done (flat_map (line_of t.columns) t.rows) d)) (newest d)
-answer d told schema = on_version d (λ t. Some (done (schema_text t.columns) d)) (newest d)
+answer d told append = on_version d None (λ t. append_reply d told.shown (rows_of t.columns told.request.lines)) (newest d)
+answer d told (restore version) = change_reply d told.shown (change.restore version)
+answer d told (scan options) = on_version d options.version (λ t. Some (scan_reply d t (places_asked t.columns options.columns))) (newest d)
+answer d told (schema version) = on_version d version (λ t. Some (done (schema_text t.columns) d)) (newest d)
+answer d told versions = Some (versions_reply d d.listed)
 
 -- the reply to one command; `None` where it reads a version that is listed and doesn't stand
 abbrev pub reply : Dataset → Told → Option Outcome
@@ -161,13 +178,6 @@ replied mode d os = record { text = texts mode os ++ cond (is_ok (answer_to mode
 -- what is replied to told commands, one after another; `None` where one reads a version that is listed and doesn't stand
 abbrev pub replies : Mode → List Told → Dataset → Option Replied
 replies mode told d = option_map (replied mode d) (outcomes mode told d)
-
--- the words ask for a command that the program takes
-abbrev pub if_taken : Asked → Option Asked
-if_taken asked = cond (is_taken asked) (Some asked) None
-
-abbrev pub asked_of : List (List ℕ) → Option Asked
-asked_of words = option_and_then if_taken (in_words words)
 
 -- a command by itself: its words are line 0, and its lines are those of the input
 abbrev pub alone : Asked → List ℕ → Request

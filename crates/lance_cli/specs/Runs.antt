@@ -7,10 +7,10 @@ use Rattle.lan_store.specs.Objects.{and_then}
 use Rattle.lan_store.specs.Streams.{and_then_bytes, TookOver, TookFront}
 use Rattle.lan_store.specs.Telling.{Telling}
 use Rattle.lan_store.specs.declared.name.Object.{Object}
-use Rattle.lan_read.specs.Standing.{StandsAt, Agrees}
+use Rattle.lan_read.specs.Tables.{StandsFor, AgreesWith}
 use Rattle.lance_cli.specs.Chain.{Link, Chain, outcomes_of, puts_of, changes, IsFront}
-use Rattle.lance_cli.specs.Commands.{Asked, reads_input, prints_rows, Request}
-use Rattle.lance_cli.specs.Replies.{Told, refused, Mode, generate, said_by, text_by, texts, answer_to, left_after, replied, closing, Tells, asked_of}
+use Rattle.lance_cli.specs.Commands.{Asked, asked_of, reads_input, prints_rows, Request}
+use Rattle.lance_cli.specs.Replies.{Told, refused, Mode, generate, said_by, text_by, texts, answer_to, left_after, replied, closing, Tells}
 use Rattle.lance_cli.specs.Served.{Served}
 use Rattle.lance_cli.specs.Words.{ByWords}
 use Rattle.lance_cli.specs.Steps.{Step, Trail, requests_in, put_in, said_in}
@@ -45,7 +45,7 @@ IsTooLong e = IsTrue (wants_input (asked_of e.words)) × ForSome e.input (λ inp
 -- the objects grew by whole ones, and each version that stood stands for the same table
 pub record Keeps (old new : List Object) : Type 0 where
   pub grew : (more : List Object) × (new ≡ old ++ more)
-  pub stands : (version : ℕ) (t : Table) → StandsAt old version t → StandsAt new version t
+  pub stands : (version : ℕ) (t : Table) → StandsFor old version t → StandsFor new version t
 
 -- a store that tells its objects still tells them
 abbrev pub Kept : Option (List Object) → Option (List Object) → Type 0
@@ -55,7 +55,7 @@ Kept before now = ForSome before (λ old. IsSomeAnd now (Keeps old))
 
 -- the dataset is that of the objects, and these are the links of what the words and the input tell
 pub record IsRun (words : List (List ℕ)) (input : List ℕ) (objects : List Object) (mode : Mode) (d : Dataset) (links : List Link) : Type 0 where
-  pub agrees : Agrees objects d
+  pub agrees : AgreesWith objects d
   pub told : List Told
   pub tells : Tells words input mode (map (λ t. t.request) told)
   pub chain : Chain mode objects d told links
@@ -69,7 +69,7 @@ pub record IsDone (mode : Mode) (old : List Object) (d : Dataset) (links : List 
   pub answer : answer_to mode (outcomes_of links) ≡ Ok tt
   pub prints : holds ≡ and_then_bytes held (replied mode d (outcomes_of links)).text
   pub puts : now ≡ Some (old ++ puts_of links)
-  pub agrees : Agrees (old ++ puts_of links) (left_after d (outcomes_of links))
+  pub agrees : AgreesWith (old ++ puts_of links) (left_after d (outcomes_of links))
   pub stands : IsFront old d links (length (changes links)) (old ++ puts_of links)
 
 -- an Ok does all that is replied

@@ -1,14 +1,13 @@
 -- What is decided before any call of the store.
 use Rattle.std.specs.Prelude.{◌≡◌, ◌⊎◌, ℕ, Result, Err}
 use Rattle.lan_store.specs.Telling.{Telling}
-use Rattle.lance_cli.specs.Causes.{BadWords, IsNotBuilt}
+use Rattle.lance_cli.specs.Causes.{BadWords}
 use Rattle.lance_cli.specs.Commands.{Asked}
 use Rattle.lance_cli.specs.declared.fault.Fault.{Fault}
 use Rattle.lance_cli.specs.declared.fault.Fault.TheVariants as fault
 
 -- what a command's own words decide, which have this line
 abbrev pub ByWords : Asked → ℕ → Fault → Type 0
-ByWords asked line fault.NotBuilt = IsNotBuilt asked
 ByWords asked line (fault.BadInput number why) = BadWords asked line (fault.BadInput number why)
 ByWords asked line f = ⊥
 

@@ -1,14 +1,13 @@
 // Why a command is refused, and the status that the program then ends with.
 ghost use Rattle.std.specs.Prelude.{◌≡◌, IfOk};
-ghost use Rattle.lance_cli.specs.Faults.{status_of, of_read, of_commit, of_form, of_lines, of_scan};
+ghost use Rattle.lance_cli.specs.Faults.{status_of, of_read, of_commit, of_form, of_lines};
 ghost use Rattle.lance_cli.specs.declared.fault.Fault.TheVariants.{Memory};
 
 use lan_commit::{CommitFault, Which};
 use lan_form::FormFault;
 use lan_model::Text;
-use lan_read::{PlainReadFault, PlainReason};
+use lan_read::{ReadFault, Reason};
 use lan_rows::{LinesFault, why_line};
-use lan_scan::ScanFault;
 use lan_store::Name;
 use std::alloc::{AllocError, Global};
 use thiserror::Error;
@@ -56,7 +55,7 @@ pub enum Fault {
     Limit(Which, u64),
     /// An object that isn't read: why, and at which byte, counted from the object's front.
     #[error("Outside")]
-    Outside(Name, PlainReason, u64),
+    Outside(Name, Reason, u64),
     /// An object of this name was held, though it wasn't listed.
     #[error("Raced")]
     Raced(Name),
@@ -69,9 +68,6 @@ pub enum Fault {
     WriteFault,
     #[error("Memory")]
     Memory,
-    /// The schema is one that the program doesn't take yet.
-    #[error("NotBuilt")]
-    NotBuilt,
 }
 
 impl From<AllocError> for Fault {
@@ -82,15 +78,20 @@ impl From<AllocError> for Fault {
     }
 }
 
-impl From<PlainReadFault> for Fault {
+impl From<ReadFault> for Fault {
     ghost from_gives = { λ fault e. e ≡ of_read fault };
 
-    fn from(fault: PlainReadFault) -> Self {
+    fn from(fault: ReadFault) -> Self {
         match fault {
-            PlainReadFault::NoDataset => Fault::NoDataset,
-            PlainReadFault::Outside(name, reason, place) => Fault::Outside(name, reason, place),
-            PlainReadFault::Store(name) => Fault::StoreFault(name),
-            PlainReadFault::Memory => Fault::Memory,
+            ReadFault::NoDataset => Fault::NoDataset,
+            ReadFault::NoVersion { asked, newest } => Fault::NoVersion(asked, newest),
+            ReadFault::Outside {
+                object,
+                reason,
+                place,
+            } => Fault::Outside(object, reason, place),
+            ReadFault::Store(name) => Fault::StoreFault(name),
+            ReadFault::Memory => Fault::Memory,
         }
     }
 }
@@ -105,21 +106,6 @@ impl From<CommitFault> for Fault {
             CommitFault::Raced(name) => Fault::Raced(name),
             CommitFault::Store(name) => Fault::StoreFault(name),
             CommitFault::Memory => Fault::Memory,
-        }
-    }
-}
-
-impl From<ScanFault> for Fault {
-    ghost from_gives = { λ fault e. e ≡ of_scan fault };
-
-    fn from(fault: ScanFault) -> Self {
-        match fault {
-            ScanFault::Outside(name, reason, place) => {
-                Fault::Outside(name, PlainReason::File(reason), place)
-            }
-            ScanFault::Store(name) => Fault::StoreFault(name),
-            ScanFault::Write => Fault::WriteFault,
-            ScanFault::Memory => Fault::Memory,
         }
     }
 }
@@ -170,6 +156,5 @@ pub fn exit_of(fault: &Fault) -> u8
         Fault::ReadFault => 18,
         Fault::WriteFault => 19,
         Fault::Memory => 20,
-        Fault::NotBuilt => 21,
     }
 }

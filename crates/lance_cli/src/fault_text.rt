@@ -1,13 +1,12 @@
 // The words of each fault.
 ghost use Rattle.std.specs.Prelude.{◌≡◌, ◌++◌, IfOk, codes, decimal, string_bytes};
 ghost use Rattle.json.specs.Print.{quoted};
-ghost use Rattle.lance_cli.specs.Faults.{which_text, file_code, reason_code, fault_text};
+ghost use Rattle.lance_cli.specs.Faults.{which_text, fault_text};
 
 use crate::fault::Fault;
+use crate::reason_codes::reason_code;
 use lan_commit::Which;
-use lan_file::FileReason;
 use lan_model::Text;
-use lan_read::{ManifestReason, PlainReason};
 use serde_json::Value;
 use std::alloc::{AllocError, Global};
 
@@ -59,7 +58,6 @@ fn words_of(alloc: Global, fault: &Fault) -> Result<String, AllocError>
         Fault::ReadFault => String::from_str(alloc, "input failed"),
         Fault::WriteFault => String::from_str(alloc, "output failed"),
         Fault::Memory => String::from_str(alloc, "out of memory"),
-        Fault::NotBuilt => String::from_str(alloc, "not built"),
     }
 }
 
@@ -102,34 +100,5 @@ fn which_text(which: Which) -> &'static str
         Which::FileNumber => "file number",
         Which::DeletionId => "deletion id",
         Which::ObjectBytes => "object bytes",
-    }
-}
-
-fn reason_code(alloc: Global, reason: &PlainReason) -> Result<String, AllocError>
-    ensures { IfOk result (λ code. string_bytes code ≡ reason_code reason.now) }
-{
-    match reason {
-        PlainReason::Missing => String::from_str(alloc, "missing"),
-        PlainReason::Size => String::from_str(alloc, "size"),
-        PlainReason::Short => String::from_str(alloc, "short"),
-        PlainReason::Manifest(ManifestReason::Plain) => String::from_str(alloc, "manifest-plain"),
-        PlainReason::File(reason) => file_code(alloc, *reason),
-    }
-}
-
-fn file_code(alloc: Global, reason: FileReason) -> Result<String, AllocError>
-    ensures { IfOk result (λ code. string_bytes code ≡ file_code reason) }
-{
-    match reason {
-        FileReason::Missing => String::from_str(alloc, "missing"),
-        FileReason::Size => String::from_str(alloc, "size"),
-        FileReason::Short => String::from_str(alloc, "short"),
-        FileReason::TooShort => String::from_str(alloc, "file-short"),
-        FileReason::Magic => String::from_str(alloc, "file-magic"),
-        FileReason::Version(major, minor) => format!(in alloc; "file-version {major} {minor}"),
-        FileReason::Region => String::from_str(alloc, "file-region"),
-        FileReason::Descriptor => String::from_str(alloc, "file-descriptor"),
-        FileReason::Plain => String::from_str(alloc, "file-plain"),
-        FileReason::Rows(stated, asked) => format!(in alloc; "file-rows {stated} {asked}"),
     }
 }

@@ -10,15 +10,19 @@ mod fault_text;
 mod folder;
 mod input;
 mod laws;
+mod opening;
 mod options;
 mod reason_codes;
 mod reply;
+mod restore;
 mod run;
 mod scan;
 mod schema;
+mod sending;
 mod stdio;
 #[cfg(test)]
 mod tests;
+mod versions;
 
 use fault::{Fault, exit_of};
 use fault_text::fault_text;
@@ -37,13 +41,19 @@ usage: lance_cli FOLDER COMMAND [WORDS]
 commands
   create JSON   make a dataset of the fields that the JSON names, as version 1
   append        add the rows of standard input, one JSON object a line, as the next version
-  scan          print the rows of the newest version, one JSON object a line
-  schema        print the fields of the newest version in JSON
+  restore N     make version N's table again, as the next version
+  scan          print the rows, one JSON object a line
+  schema        print the fields in JSON
+  versions      print the numbers of all versions, one a line
+
+options of scan and schema, in any order
+  --version N       of version N in place of the newest
+  --columns A,B     only these columns, in this order; of scan alone
 
 examples
   lance_cli people create '[{\"name\":\"x\",\"nullable\":false,\"type\":\"int64\"}]'
   echo '{\"x\":7}' | lance_cli people append
-  lance_cli people scan
+  lance_cli people scan --version 2 --columns x
 
 The status is 0, or says why a command was refused; the words are on standard error.
 ";

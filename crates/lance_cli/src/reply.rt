@@ -2,7 +2,6 @@
 ghost use Rattle.std.specs.Prelude.{◌≡◌, ℕ, ◌≤◌, IsErrOf, IfOk, OnOk, OnErr, string_bytes};
 ghost use Rattle.lan_store.specs.Causes.{HasCause};
 ghost use Rattle.lan_store.specs.Streams.{and_then_bytes};
-ghost use Rattle.lan_scan.specs.Sending.{GotPart};
 ghost use Rattle.lance_cli.specs.Reports.{version_text, PrintsReply};
 
 use crate::fault::Fault;

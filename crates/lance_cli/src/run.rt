@@ -1,12 +1,11 @@
 // The top call: what the commands do in turn, and what that means.
-ghost use Rattle.std.specs.Prelude.{[], cond, IsTrue, IsErrOf};
+ghost use Rattle.std.specs.Prelude.{[], cond, length, ◌≤◌, ◌^◌, IsTrue, IsErrOf};
 ghost use Rattle.lan_rows.specs.Lines.{cut};
 ghost use Rattle.lan_store.specs.Causes.{HasCause};
 ghost use Rattle.lan_store.specs.Looked.{Fails};
 ghost use Rattle.lance_cli.specs.Asks.{AsksFor, AsksBy};
-ghost use Rattle.lance_cli.specs.Commands.{asked_as, reads_input};
+ghost use Rattle.lance_cli.specs.Commands.{asked_as, asked_of, reads_input};
 ghost use Rattle.lance_cli.specs.Failures.{failure_of, clashed};
-ghost use Rattle.lance_cli.specs.Replies.{asked_of};
 ghost use Rattle.lance_cli.specs.Runs.{Kept, Ran, Done, Stops, Decided, Moments, Ordered, TakenBy, wants_input};
 ghost use Rattle.lance_cli.specs.Served.{Served};
 ghost use Rattle.lance_cli.specs.Words.{WordsFirst};
@@ -17,8 +16,10 @@ use crate::command::{Asked, asked_of};
 use crate::create::plan_create;
 use crate::fault::Fault;
 use crate::input::take_text;
+use crate::restore::plan_restore;
 use crate::scan::serve_scan;
 use crate::schema::serve_schema;
+use crate::versions::serve_versions;
 use lan_model::Words;
 use lan_store::laws::{looks_add_up, puts_follow_looks};
 use lan_store::{Sink, Source, Store};
@@ -66,7 +67,7 @@ pub fn run<S: Store, I: Source, O: Sink>(
     ensures write_cause { HasCause (IsErrOf result Fault.WriteFault) (O.faults out.old) (O.faults out.new) }
 {
     looks_add_up();
-    let Some(asked) = asked_of(words) else {
+    let Some(asked) = asked_of(alloc, words)? else {
         return Err(Fault::Usage);
     };
     let text = take_text(alloc, &asked, input)?;
@@ -82,6 +83,7 @@ fn serve<S: Store, O: Sink>(
     store: &mut S,
     out: &mut O,
 ) -> Result<(), Fault>
+    requires short { length text.items ≤ 2 ^ 28 }
     ensures served { Served (record { before = (S.tells store.old).objects; now = (S.tells store.new).objects; held = O.held out.old; holds = O.held out.new }) (record { asked = asked_as asked.now; line = line; lines = cond (reads_input (asked_as asked.now)) (cut 1 [] text.items) [] }) result }
     ensures words { WordsFirst (asked_as asked.now) line (S.tells store.old) (S.tells store.new) result }
     ensures asks { AsksFor (asked_as asked.now) (S.tells store.old) (S.tells store.new) }
@@ -99,7 +101,12 @@ fn serve<S: Store, O: Sink>(
             let planned = plan_append(alloc, text, store)?;
             apply(alloc, planned, store, out)
         }
-        Asked::Scan => serve_scan(alloc, store, out),
-        Asked::Schema => serve_schema(alloc, store, out),
+        Asked::Restore(version) => {
+            let planned = plan_restore(alloc, *version, store)?;
+            apply(alloc, planned, store, out)
+        }
+        Asked::Scan(options) => serve_scan(alloc, options, store, out),
+        Asked::Schema(version) => serve_schema(alloc, *version, store, out),
+        Asked::Versions => serve_versions(alloc, store, out),
     }
 }

@@ -5,7 +5,7 @@ use Rattle.lan_store.specs.Budget.{nothing}
 use Rattle.lan_store.specs.Looked.{Looked}
 use Rattle.lance_cli.proofs.ByWords.{words_read, words_taken}
 use Rattle.lance_cli.proofs.Failing.{commit_looked, fields_unfailing}
-use Rattle.lance_cli.proofs.Serving.{unread_fields, planned_create, unplanned_create}
+use Rattle.lance_cli.proofs.Planned.{unread_fields, planned_create, unplanned_create}
 use Rattle.lance_cli.proofs.create.plan_create.Goals as goal
 
 pub returns-in_err-fields-clause-plans : goal.returns-in_err-fields-clause-plans

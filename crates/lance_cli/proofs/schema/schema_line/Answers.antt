@@ -1,5 +1,5 @@
 use Rattle.std.proofs.Common.{◌∙◌}
-use Rattle.lance_cli.proofs.Serving.{line_is}
+use Rattle.lance_cli.proofs.Numbered.{line_is}
 use Rattle.lance_cli.proofs.schema.schema_line.Goals as goal
 
 pub returns : goal.returns

@@ -17,9 +17,8 @@ use Rattle.lan_manifest.specs.Versions.{IsListed, IsNewest, IsVersion, NoneListe
 use Rattle.lan_manifest.proofs.ObjectBack.{framed_long}
 use Rattle.lan_read.specs.Changes.{new_fragment}
 use Rattle.lan_read.specs.Listings.{IsFileOfRows, file_of_fields}
-use Rattle.lan_read.specs.Rows.{FragmentGives, IsHeld}
+use Rattle.lan_read.specs.Rows.{FragmentGives, IsHeld, data_name}
 use Rattle.lan_read.specs.Snapshots.{IsNewestManifest}
-use Rattle.lan_read.specs.Standing.{data_name}
 use Rattle.lan_read.specs.Tables.{AgreesWith, HasManifest, StandsFor}
 use Rattle.lan_read.proofs.LawTerms.{agreement_stays, append_stands, create_stands, fragment_written, restore_stands, table_stays}
 use Rattle.lan_commit.specs.Change.{Change, create, append, restore, manifest_after, next_as, next_of}

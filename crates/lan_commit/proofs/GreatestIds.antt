@@ -1,6 +1,6 @@
 -- The greatest fragment id, fragment by fragment, and of a fresh one.
-use Rattle.std.proofs.Common.{◌≡◌, refl, sym, ◌∙◌, ap, subst, ℕ, zero, suc, ◌+◌, ◌^◌, ◌<◌, ◌≤◌, max, List, [], ◌∷◌, map, drop, drop-cons, add-one, length, get_or, arith, append-nil}
-use Rattle.std.specs.Prelude.{Option, Some, None, IfSome, All, unwrap_or}
+use Rattle.std.proofs.Common.{◌≡◌, refl, sym, ◌∙◌, ap, subst, ℕ, suc, ◌+◌, ◌<◌, ◌≤◌, max, List, [], ◌∷◌, map, drop, drop-cons, add-one, length, get_or, arith, append-nil}
+use Rattle.std.specs.Prelude.{Option, Some, None, unwrap_or}
 use Rattle.std.proofs.lemmas.List.{drop_all}
 use Rattle.lan_fresh.specs.Fresh.{greatest_of, above, with_greatest, fresh_fragment}
 use Rattle.lan_manifest.specs.Manifests.{PlainManifest}
@@ -33,21 +33,3 @@ fresh_is_greatest m = ap (λ l. greatest_of (fresh_fragment m ∷ l)) (append-ni
   go : (known : Option ℕ) → Some (max (above known 0) (unwrap_or known 0)) ≡ Some (above known 0)
   go None = ap (λ k. Some k) (omega arith)
   go (Some n) = ap (λ k. Some k) (omega arith)
-
-bound : (most : ℕ) (ns : List ℕ) → All (λ n. n < most) ns → IfSome (greatest_of ns) (λ n. n < most)
-bound most [] each = tt
-bound most (n ∷ ns) each = go (greatest_of ns) (each 0 0 (omega arith)) (bound most ns (λ k d below. each (suc k) d (omega (arith, below)))) where
-  go : (known : Option ℕ) → n < most → IfSome known (λ n. n < most) → max n (unwrap_or known 0) < most
-  go None small later = omega arith
-  go (Some m) small later = omega (arith, later)
-
-ids_below : (most : ℕ) (given : Option ℕ) (fs : List Fragment) → All (λ (f : Fragment). f.id < most) fs → IfSome given (λ id. id < most) → All (λ n. n < most) (with_greatest given (map (λ f. f.id) fs))
-ids_below most None [] each known k d below = absurd (omega (arith, below))
-ids_below most None (f ∷ fs) each known zero d below = each 0 f (omega arith)
-ids_below most None (f ∷ fs) each known (suc k) d below = ids_below most None fs (λ k d below. each (suc k) d (omega (arith, below))) tt k d (omega (arith, below))
-ids_below most (Some n) fs each known zero d below = known
-ids_below most (Some n) fs each known (suc k) d below = ids_below most None fs each tt k d (omega (arith, below))
-
--- the greatest of ids that may stand may stand
-pub known_below : (m : PlainManifest) → All (λ (f : Fragment). f.id < 2 ^ 32) m.fragments → IfSome m.greatest (λ id. id < 2 ^ 32) → IfSome (greatest_written m None []) (λ id. id < 2 ^ 32)
-known_below m each given = subst (λ l. IfSome (greatest_of l) (λ id. id < 2 ^ 32)) (sym (append-nil (ids_of m))) (bound (2 ^ 32) (ids_of m) (ids_below (2 ^ 32) m.greatest m.fragments each given))

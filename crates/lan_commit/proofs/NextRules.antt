@@ -15,9 +15,9 @@ use Rattle.lan_manifest.specs.declared.manifest.Fragment.{Fragment}
 use Rattle.lan_manifest.specs.FragmentRules.{are_indexed, deleted_fit, has_id, HaveIds, is_current, is_whole, KeepEach, listed_ids, lists_fit, may_lack, repeats, type_fits}
 use Rattle.lan_manifest.specs.ManifestObjects.{KeepsRules}
 use Rattle.lan_manifest.specs.Manifests.{PlainManifest, has_deletions}
-use Rattle.lan_manifest.specs.Reads.{IsPath}
+use Rattle.lan_manifest.specs.Paths.{IsPath}
 use Rattle.lan_manifest.specs.SchemaLeaves.{all_leaf_ids, is_listed, shape_of, tops_of}
-use Rattle.lan_manifest.proofs.FragmentItems.{path_is_text}
+use Rattle.lan_manifest.proofs.PathTexts.{path_is_text}
 use Rattle.lan_manifest.proofs.ObjectBack.{FileFits, flag_known, FragmentFits, said_file, said_fragment, said_manifest}
 use Rattle.lan_read.specs.Changes.{new_fragment}
 use Rattle.lan_read.specs.Listings.{all_listings, columns_in, file_of_fields, ids_in}

@@ -7,7 +7,7 @@ use Rattle.lan_file.specs.FileText.{file_text}
 use Rattle.lan_file.specs.SlotsWritten.{rows_columns}
 use Rattle.lan_fresh.specs.Fresh.{fresh_file, file_path}
 use Rattle.lan_manifest.specs.Manifests.{manifest_object}
-use Rattle.lan_read.specs.Standing.{data_name}
+use Rattle.lan_read.specs.Rows.{data_name}
 use Rattle.lan_commit.specs.Change.{Change, create, append, restore, manifest_after}
 use Rattle.lan_commit.specs.First.{first_limit}
 use Rattle.lan_commit.specs.Limits.{append_limit, bytes_limit, version_limit}

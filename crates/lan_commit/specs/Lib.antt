@@ -1,7 +1,6 @@
 pub mod BuiltColumns
 pub mod Change
 pub mod ChangePuts
-pub mod Changes
 pub mod Commits
 pub mod Creates
 pub mod Failures
@@ -11,6 +10,4 @@ pub mod Limits
 pub mod Makes
 pub mod NewRows
 pub mod Prepares
-pub mod Puts
 pub mod Shredded
-pub mod Stage

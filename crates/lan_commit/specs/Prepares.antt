@@ -1,12 +1,8 @@
--- What preparing an append answers, step by step.
-use Rattle.std.specs.Prelude.{◌≡◌, ℕ, ⊤, List, Option, Some, None, Vec, Result, Ok, Err}
-use Rattle.std.specs.declared.alloc.Global.{Global}
-use Rattle.lan_model.specs.Plain.{PlainValue}
+-- What the steps of preparing a change answer.
+use Rattle.std.specs.Prelude.{◌≡◌, ℕ, ⊤, List, Option, Some, None, Result, Ok, Err}
 use Rattle.lan_store.specs.declared.name.Object.{Object}
 use Rattle.lan_fresh.specs.Fresh.{fresh_file}
-use Rattle.lan_manifest.specs.Manifests.{PlainManifest}
 use Rattle.lan_commit.specs.Limits.{file_limit}
-use Rattle.lan_commit.specs.Puts.{append_puts, limit_of_append}
 use Rattle.lan_commit.specs.declared.limits.Which.{Which}
 use Rattle.lan_commit.specs.declared.committing.CommitFault.{CommitFault}
 use Rattle.lan_commit.specs.declared.committing.CommitFault.TheVariants.{AlreadyThere, Limit, Raced, Store, Memory}
@@ -23,10 +19,6 @@ JudgesLimit limit Holds (Err Memory) = ⊤
 -- the number of a new data file, where it is below the limit
 abbrev pub DrawsFile : List Object → Result ℕ CommitFault → Type 0
 DrawsFile objects result = JudgesLimit (file_limit objects None) (λ number. number ≡ fresh_file objects) result
-
--- the objects of an append, where no limit is reached
-abbrev pub PreparesAppend : List Object → PlainManifest → List (List PlainValue) → Result (Vec Object Global) CommitFault → Type 0
-PreparesAppend objects m rows result = JudgesLimit (limit_of_append objects m rows) (λ puts. puts.items ≡ append_puts objects m rows) result
 
 -- a limit, the store and want of memory are all that stop it, also where the store doesn't tell its objects
 abbrev pub StopsRightly : {A : Type 0} → Result A CommitFault → Type 0

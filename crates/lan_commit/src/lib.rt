@@ -2,7 +2,6 @@
 #![tactic(auto)]
 
 mod adding;
-mod appending;
 mod committing;
 mod creating;
 mod greatest;
@@ -15,7 +14,6 @@ mod objects;
 mod restoring;
 
 pub use adding::prepare_rows;
-pub use appending::prepare_append;
 pub use committing::{CommitFault, put_change};
 pub use creating::{create, prepare_create};
 pub use limits::Which;

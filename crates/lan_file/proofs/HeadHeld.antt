@@ -10,12 +10,10 @@ use Rattle.lan_file.specs.declared.tables.Tables.{Tables}
 use Rattle.lan_file.specs.declared.head_fault.HeadFault.{HeadFault}
 use Rattle.lan_file.specs.declared.head_fault.HeadFault.TheVariants.{Outside, Store, Memory}
 use Rattle.lan_file.specs.declared.head_fault.HeadReason.TheVariants.{Missing, Short, Magic, Version, Region}
-use Rattle.lan_file.specs.Asking.{IsSizeOf}
+use Rattle.lan_file.specs.Tables.{IsSizeOf, IsPieceOf, JudgesFooter, JudgesTables}
 use Rattle.lan_file.specs.Heads.{Pick}
 use Rattle.lan_file.specs.HeadReasons.{HeadBreaks, head_fault_failure}
-use Rattle.lan_file.specs.Parts.{part, tail_of}
-use Rattle.lan_file.specs.Reasons.{IsSmall}
-use Rattle.lan_file.specs.Tables.{IsPieceOf, JudgesFooter, JudgesTables}
+use Rattle.lan_file.specs.Parts.{part, tail_of, IsSmall}
 use Rattle.lan_file.proofs.Opened.{is_tail}
 
 -- a part that lies within the object is lacked only where nothing is held, or for a fault that isn't the object's

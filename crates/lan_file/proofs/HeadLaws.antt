@@ -13,8 +13,7 @@ use Rattle.lan_file.specs.declared.head_fault.HeadReason.TheVariants.{Missing, S
 use Rattle.lan_file.specs.Descriptor.{StatesRows}
 use Rattle.lan_file.specs.Heads.{Pick, placed, column_at, rows_in, IsThere, PickedColumn, PickedColumns, HasHead}
 use Rattle.lan_file.specs.HeadReasons.{HeadStands}
-use Rattle.lan_file.specs.Parts.{footer_of, descriptor_of}
-use Rattle.lan_file.specs.Reasons.{IsSmall}
+use Rattle.lan_file.specs.Parts.{footer_of, descriptor_of, IsSmall}
 
 one_length : (message : Placed) (m n : ℕ) → StatesRows message m → StatesRows message n → m ≡ n
 one_length message m n p q = reads_as_one (open_to FILE_DESCRIPTOR) _ message m n (λ items r a b. a ∙ sym b) p q

@@ -7,22 +7,11 @@ pub mod HeadHeld
 pub mod HeadLaws
 pub mod Held
 pub mod LawTerms
-pub mod Lengths
-pub mod Looks
 pub mod Opened
-pub mod Pages
 pub mod PartLemmas
 mod KeptPicks
 pub mod Picked
-pub mod PlainIsFile
-pub mod Plainly
-pub mod Rows
-pub mod Slots
-pub mod Stated
 pub mod TablesRead
-pub mod Unique
-pub mod Values
-pub mod Written
 pub mod WrittenColumn
 pub mod WrittenFile
 pub mod WrittenPage

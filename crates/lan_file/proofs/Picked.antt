@@ -18,8 +18,7 @@ use Rattle.lan_file.specs.Descriptor.{StatesRows}
 use Rattle.lan_file.specs.Heads.{Pick, pick_of, picks_of, placed, column_at, IsWhole, PickedColumn, PickedColumns}
 use Rattle.lan_file.specs.HeadReasons.{HeadBreaks}
 use Rattle.lan_file.specs.HeadSteps.{meta_fault, pages_of, JudgesPick, FailsAtPick}
-use Rattle.lan_file.specs.Parts.{part, footer_of, descriptor_of}
-use Rattle.lan_file.specs.Reasons.{IsSmall}
+use Rattle.lan_file.specs.Parts.{part, footer_of, descriptor_of, IsSmall}
 use Rattle.lan_file.specs.Tables.{IsTablesOf, descriptor_in}
 use Rattle.lan_file.proofs.TablesRead.{descriptor_there}
 

@@ -14,8 +14,7 @@ use Rattle.lan_file.specs.declared.head_fault.HeadReason.{HeadReason}
 use Rattle.lan_file.specs.declared.head_fault.HeadReason.TheVariants.{Missing, Size, Short, TooShort, Magic, Version, Region, Descriptor, Column, Wire, Meta, ColumnRows}
 use Rattle.lan_file.specs.Descriptor.{StatesRows}
 use Rattle.lan_file.specs.Heads.{Pick, placed, column_at, KeepsRegions, IsWhole, PagesOfPick, rows_in}
-use Rattle.lan_file.specs.Parts.{tail_of, footer_of, descriptor_of, IsFile}
-use Rattle.lan_file.specs.Reasons.{IsSmall}
+use Rattle.lan_file.specs.Parts.{tail_of, footer_of, descriptor_of, IsFile, IsSmall}
 
 -- a column of this number is asked
 pub record IsAsked (picks : List Pick) (number : ℕ) : Type 0 where

@@ -11,8 +11,7 @@ use Rattle.lan_file.specs.declared.head.ColumnPick.{ColumnPick}
 use Rattle.lan_file.specs.declared.head.FileHead.{FileHead}
 use Rattle.lan_file.specs.declared.tail.Extent.{Extent}
 use Rattle.lan_file.specs.Descriptor.{StatesRows}
-use Rattle.lan_file.specs.Parts.{part, footer_of, extent_in, extent, descriptor_of, IsFile, InOrder, HasColumn}
-use Rattle.lan_file.specs.Reasons.{IsSmall}
+use Rattle.lan_file.specs.Parts.{part, footer_of, extent_in, extent, descriptor_of, IsFile, InOrder, HasColumn, IsSmall}
 
 -- a column that is asked, by its number, as one of a leaf
 pub record Pick : Type 0 where

@@ -1,9 +1,13 @@
 -- The parts of a data file: its footer, its tables, and the parts that they name.
-use Rattle.std.specs.Prelude.{◌≡◌, ℕ, ◌+◌, ◌*◌, ◌-◌, ◌<◌, ◌≤◌, List, length, take, drop, codes}
+use Rattle.std.specs.Prelude.{◌≡◌, ℕ, ◌+◌, ◌*◌, ◌-◌, ◌^◌, ◌≤◌, List, length, take, drop, codes}
 use Rattle.std.specs.Int.{w16, w32, w64}
 use Rattle.lan_bytes.specs.Numbers.{number_at}
 use Rattle.lan_file.specs.declared.tail.Footer.{Footer}
 use Rattle.lan_file.specs.declared.tail.Extent.{Extent}
+
+-- an object that is read has at most 2^30 bytes
+abbrev pub IsSmall : List ℕ → Type 0
+IsSmall bytes = length bytes ≤ 2 ^ 30
 
 -- so many bytes from a place on
 abbrev pub part : List ℕ → ℕ → ℕ → List ℕ
@@ -32,10 +36,6 @@ footer_of bytes = footer_in (tail_of bytes)
 unfoldable pub extent_in : List ℕ → Extent
 extent_in entry = record { at = number_at w64 entry 0; size = number_at w64 entry 8 }
 
--- where column metadata 0 lies, by the first entry of the columns' table
-abbrev pub column_of : List ℕ → Extent
-column_of bytes = extent_in (part bytes (footer_of bytes).column_table 16)
-
 -- where global buffer 0, the descriptor, lies, by the first entry of the global buffers' table
 abbrev pub descriptor_of : List ℕ → Extent
 descriptor_of bytes = extent_in (part bytes (footer_of bytes).globals_table 16)
@@ -61,13 +61,3 @@ pub record InOrder (size : ℕ) (f : Footer) : Type 0 where
 pub record HasColumn (f : Footer) (column : Extent) : Type 0 where
   pub behind : f.columns_at ≤ column.at
   pub before : column.at + column.size ≤ f.column_table
-
--- column metadata 0 and the descriptor, where they are there, lie where they must
-pub record LieWithin (f : Footer) (column descriptor : Extent) : Type 0 where
-  pub has_column : 0 < f.columns → HasColumn f column
-  pub has_descriptor : 0 < f.globals → descriptor.at + descriptor.size ≤ f.columns_at
-
--- all parts that are looked at lie where they must
-pub record HasRegions (bytes : List ℕ) : Type 0 where
-  pub tables : InOrder (length bytes) (footer_of bytes)
-  pub parts : LieWithin (footer_of bytes) (column_of bytes) (descriptor_of bytes)

@@ -8,8 +8,11 @@ use Rattle.lan_file.specs.declared.tables.Tables.{Tables}
 use Rattle.lan_file.specs.declared.tail.Extent.{Extent}
 use Rattle.lan_file.specs.declared.tail.Footer.{Footer}
 use Rattle.lan_file.specs.Opening.{IsTail}
-use Rattle.lan_file.specs.Parts.{part, footer_in, footer_of, extent_in, IsFile, InOrder, HasColumn}
-use Rattle.lan_file.specs.Reasons.{IsSmall}
+use Rattle.lan_file.specs.Parts.{part, footer_in, footer_of, extent_in, IsFile, InOrder, HasColumn, IsSmall}
+
+-- the answer is the length of bytes that aren't too long
+abbrev pub IsSizeOf : List ℕ → ℕ → Type 0
+IsSizeOf bytes size = IsSmall bytes × (size ≡ length bytes)
 
 -- the part was read, or the object lacks it
 abbrev pub IsPieceOf : Option (List ℕ) → ℕ → ℕ → Result (List ℕ) HeadFault → Type 0

@@ -1,41 +1,20 @@
 //! What holds of data files, each law as the contract of a function with an empty body.
 
-ghost use Rattle.std.specs.Prelude.{◌≡◌, ℕ, ◌^◌, ◌<◌, ◌≤◌, List, [], ◌∷◌, length, map, All, Some};
+ghost use Rattle.std.specs.Prelude.{◌≡◌, ℕ, ◌^◌, ◌<◌, ◌≤◌, List, length, All, Some};
 ghost use Rattle.lan_levels.specs.PlainSlots.{PlainSlot};
-ghost use Rattle.lan_levels.specs.SlotsOf.{rows_slots};
 ghost use Rattle.lan_meta.specs.declared.page.BuiltPage.{BuiltPage};
 ghost use Rattle.lan_meta.specs.declared.page.PageMeta.{PageMeta};
-ghost use Rattle.lan_model.specs.Leaves.{PlainLeaf, leaves_from};
+ghost use Rattle.lan_model.specs.Leaves.{leaves_from};
 ghost use Rattle.lan_model.specs.Fits.{EachFits};
-ghost use Rattle.lan_model.specs.Plain.{PlainField, PlainFields, PlainValue, PlainValues, fields_from, values_from};
+ghost use Rattle.lan_model.specs.Plain.{PlainFields, PlainValues};
 ghost use Rattle.lan_model.specs.Room.{AllHaveRoom};
-ghost use Rattle.lan_model.specs.Table.{FitsRow};
-ghost use Rattle.lan_file.specs.declared.fault.FileReason.{FileReason};
 ghost use Rattle.lan_file.specs.declared.head_fault.HeadReason.{HeadReason};
 ghost use Rattle.lan_file.specs.FileOf.{IsFileOf, AreWritten, AreBuilt};
 ghost use Rattle.lan_file.specs.FileText.{file_text};
-ghost use Rattle.lan_file.specs.Files.{HoldsRows};
 ghost use Rattle.lan_file.specs.HeadReasons.{HeadStands};
 ghost use Rattle.lan_file.specs.Heads.{Pick, HasHead};
-ghost use Rattle.lan_file.specs.Reasons.{IsSmall, Stands};
+ghost use Rattle.lan_file.specs.Parts.{IsSmall};
 ghost use Rattle.lan_file.specs.SlotsWritten.{Given, columns_of, IsGiven, AreGiven, TakesRows, rows_columns, AreLeaves, slots_asked};
-ghost use Rattle.lan_file.specs.Stage.{IsRequiredFixed};
-ghost use Rattle.lan_file.specs.Writing.{file_bytes};
-
-/// What is written of rows holds these rows.
-pub fn written_files_hold_their_rows()
-    ensures { (f : PlainField ℕ) (rows : List (List PlainValue)) → IsRequiredFixed f → 0 < length rows → All (FitsRow (f ∷ [])) rows → length (file_bytes (f ∷ []) rows) < 2 ^ 64 → HoldsRows (f ∷ []) (file_bytes (f ∷ []) rows) rows }
-{}
-
-/// Bytes hold one list of rows.
-pub fn files_hold_one_list()
-    ensures { (f : PlainField ℕ) (bytes : List ℕ) (xs ys : List (List PlainValue)) → IsRequiredFixed f → All (FitsRow (f ∷ [])) xs → All (FitsRow (f ∷ [])) ys → HoldsRows (f ∷ []) bytes xs → HoldsRows (f ∷ []) bytes ys → xs ≡ ys }
-{}
-
-/// Where an object of at most 2^30 bytes holds as many rows as are asked, no reason stands.
-pub fn held_rows_have_no_reason()
-    ensures { (fields : List (PlainField ℕ)) (bytes : List ℕ) (rows : List (List PlainValue)) (reason : FileReason) (place : ℕ) → HoldsRows fields bytes rows → IsSmall bytes → Stands fields (length rows) (Some bytes) reason place → ⊥ }
-{}
 
 /// What is written of columns whose pages keep to the rules, and have as many rows each as are told, has the
 /// head that gives just these pages, with the places of their buffers.
@@ -75,15 +54,4 @@ pub fn one_file()
 /// Where an object of at most 2^30 bytes has a head, no reason stands.
 pub fn heads_have_no_reason()
     ensures { (picks : List Pick) (bytes : List ℕ) (rows : ℕ) (columns : List (List PageMeta)) (reason : HeadReason) (place : ℕ) → IsSmall bytes → HasHead picks bytes rows columns → HeadStands picks (Some bytes) reason place → ⊥ }
-{}
-
-/// A file that holds rows in the narrow spelling is a file of the slots of these rows in its one leaf.
-pub fn narrow_files_are_files()
-    ensures { (f : PlainField ℕ) (leaf : PlainLeaf) (bytes : List ℕ) (rows : List (List PlainValue)) → IsRequiredFixed f → leaves_from (fields_from (f ∷ [])) 0 ≡ leaf ∷ [] → length bytes ≤ 2 ^ 63 → HoldsRows (f ∷ []) bytes rows
-        → IsFileOf (record { column = 0; leaf = leaf } ∷ []) bytes (length rows) (rows_slots leaf (map values_from rows) ∷ []) }
-{}
-
-/// What is written of rows has at least a byte for each.
-pub fn written_files_have_a_byte_a_row()
-    ensures { (f : PlainField ℕ) (rows : List (List PlainValue)) → IsRequiredFixed f → All (FitsRow (f ∷ [])) rows → length rows ≤ length (file_bytes (f ∷ []) rows) }
 {}

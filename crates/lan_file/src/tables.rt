@@ -5,12 +5,11 @@ ghost use Rattle.lan_store.specs.Budget.{Asks, nothing, range, ranges};
 ghost use Rattle.lan_store.specs.Looked.{Looked};
 ghost use Rattle.lan_store.specs.Objects.{object};
 ghost use Rattle.lan_file.specs.declared.head.ColumnPick.{ColumnPick};
-ghost use Rattle.lan_file.specs.Asking.{IsSizeOf};
+ghost use Rattle.lan_file.specs.Tables.{IsSizeOf, IsPieceOf, JudgesFooter, IsTablesOf, AreTables, KeepsColumn, LacksColumn, JudgesTables};
 ghost use Rattle.lan_file.specs.Heads.{Pick, tables_budget};
 ghost use Rattle.lan_file.specs.HeadReasons.{head_failure, ReadsHead};
 ghost use Rattle.lan_file.specs.Opening.{IsOpened};
 ghost use Rattle.lan_file.specs.Parts.{InOrder};
-ghost use Rattle.lan_file.specs.Tables.{IsPieceOf, JudgesFooter, IsTablesOf, AreTables, KeepsColumn, LacksColumn, JudgesTables};
 
 use crate::head::ColumnPick;
 use crate::head_fault::{HeadFault, HeadReason};

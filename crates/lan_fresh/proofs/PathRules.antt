@@ -7,7 +7,7 @@ use Rattle.std.proofs.lemmas.Bool.Decides.{nat_tests}
 use Rattle.std.proofs.lemmas.List.{get_or_append_left, get_or_default}
 use Rattle.std.proofs.lemmas.List.Elements.{All-append}
 use Rattle.std.proofs.lemmas.Str.Parse.{digit_at}
-use Rattle.lan_manifest.specs.Reads.{IsPath, is_path_byte}
+use Rattle.lan_manifest.specs.Paths.{IsPath, is_path_byte}
 use Rattle.lan_fresh.specs.Fresh.{file_path}
 use Rattle.lan_fresh.proofs.Paths.{digits_in, path_is, digits_are, length_in}
 

@@ -5,7 +5,7 @@ ghost use Rattle.std.specs.Prelude.{◌≡◌, ℕ, ◌<◌, ◌^◌, List, Some
 ghost use Rattle.lan_store.specs.declared.name.Dir.TheVariants.{Data};
 ghost use Rattle.lan_store.specs.declared.name.Object.{Object};
 ghost use Rattle.lan_store.specs.Objects.{object};
-ghost use Rattle.lan_manifest.specs.Reads.{IsPath};
+ghost use Rattle.lan_manifest.specs.Paths.{IsPath};
 ghost use Rattle.lan_fresh.specs.Fresh.{file_path, file_number, fresh_file};
 
 /// No object has the name that is drawn for a data file.

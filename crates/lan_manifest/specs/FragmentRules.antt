@@ -11,7 +11,7 @@ use Rattle.lan_manifest.specs.declared.said.SaidFile.{SaidFile}
 use Rattle.lan_manifest.specs.declared.said.SaidDeletion.{SaidDeletion}
 use Rattle.lan_manifest.specs.declared.said.SaidFragment.{SaidFragment}
 use Rattle.lan_manifest.specs.declared.schema.Top.{Top}
-use Rattle.lan_manifest.specs.Reads.{IsPath}
+use Rattle.lan_manifest.specs.Paths.{IsPath}
 use Rattle.lan_manifest.specs.SchemaLeaves.{LeafShape, is_listed}
 use Rattle.lan_manifest.specs.Stage.{is_read_type}
 

@@ -1,12 +1,9 @@
-pub mod Columns
 pub mod FragmentRules
 pub mod Frame
 pub mod ManifestMessages
 pub mod ManifestObjects
 pub mod Manifests
-pub mod Readable
-pub mod Reads
+pub mod Paths
 pub mod SchemaLeaves
 pub mod Stage
 pub mod Versions
-pub mod Walks

@@ -7,7 +7,7 @@ ghost use Rattle.lan_manifest.specs.declared.fault.ManifestFault.TheVariants.{Me
 ghost use Rattle.lan_manifest.specs.FragmentRules.{deleted_fit, type_fits, are_indexed, lists_fit, is_current, listed_ids, repeats, is_whole, may_lack, Keeps, fault_of, Breaks, KeepEach, BreakOne, HaveIds, BreaksId};
 ghost use Rattle.lan_manifest.specs.declared.keeping.TheConstants.{FRAGMENT_RULES};
 ghost use Rattle.lan_manifest.specs.ManifestObjects.{KeepsRules, BreaksRule};
-ghost use Rattle.lan_manifest.specs.Reads.{IsPath};
+ghost use Rattle.lan_manifest.specs.Paths.{IsPath};
 ghost use Rattle.lan_manifest.specs.SchemaLeaves.{is_listed, shape_in};
 ghost use Rattle.lan_manifest.specs.Stage.{is_read_type};
 

@@ -12,14 +12,8 @@ ghost use Rattle.lan_manifest.specs.declared.fault.ManifestFault.TheVariants.{Me
 ghost use Rattle.lan_manifest.specs.declared.manifest.Fragment.{Fragment};
 ghost use Rattle.lan_manifest.specs.Manifests.{PlainManifest, manifest_text, framed};
 ghost use Rattle.lan_manifest.specs.ManifestObjects.{IsManifestObject, RefusesManifest};
-ghost use Rattle.lan_manifest.specs.Reads.{ManifestOf};
 ghost use Rattle.lan_manifest.specs.SchemaLeaves.{leaf_ids};
 ghost use Rattle.lan_manifest.specs.Versions.{IsVersion, manifest_name};
-
-/// Bytes stand for one manifest of a version.
-pub fn one_manifest()
-    ensures { (bytes : List ℕ) (version : ℕ) (m n : PlainManifest) → 1 ≤ version → ManifestOf bytes version m → ManifestOf bytes version n → m ≡ n }
-{}
 
 /// Manifests of two versions have two names.
 pub fn names_tell_versions()
@@ -41,13 +35,6 @@ pub fn manifests_are_not_refused()
 pub fn written_manifests_are_read()
     ensures { (object : Placed) (version at : ℕ) (m : PlainManifest) → IsManifestObject object version m → length (manifest_text m) < 2 ^ 32
         → IsManifestObject (record { base = at; bytes = framed (manifest_text m) }) version m }
-{}
-
-/// A manifest in the writer's own spelling stands in its object, wherever that lies, where it has fewer than 2^32
-/// bytes.
-pub fn plain_manifests_are_read()
-    ensures { (bytes : List ℕ) (version at : ℕ) (m : PlainManifest) → ManifestOf bytes version m → version < 2 ^ 64 → length bytes < 2 ^ 32
-        → IsManifestObject (record { base = at; bytes = bytes }) version m }
 {}
 
 /// An object has at least two bytes a fragment, and two a file.

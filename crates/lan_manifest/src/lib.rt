@@ -1,16 +1,12 @@
 //! Manifests: what a version of a dataset is made of, read and written, and the names of versions.
 #![tactic(auto)]
 
-mod columns;
 mod copying;
 mod fault;
-mod fragments;
 mod frame;
-mod items;
 mod keeping;
 pub mod laws;
 mod manifest;
-mod plain;
 mod reading;
 mod rules;
 mod said;
@@ -21,7 +17,6 @@ mod writing;
 pub use fault::ManifestFault;
 pub use frame::message_place;
 pub use manifest::{DataFile, DataFiles, Deletion, Fragment, Fragments, Manifest};
-pub use plain::{PlainFault, read_plain};
 pub use reading::read_manifest;
 pub use versions::{list_versions, name_of_version, version_of_name};
 pub use writing::write_manifest;

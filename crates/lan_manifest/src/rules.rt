@@ -1,10 +1,6 @@
-// The rules of manifests that take a look at each byte of a path, or at all fragments.
-ghost use Rattle.std.specs.Prelude.{◌≡◌, ◌≢◌, ◌↔◌, AllPairs, IfOk, IsTrue};
-ghost use Rattle.lan_manifest.specs.Reads.{is_path_byte, IsPath};
-
-use crate::manifest::Fragment;
-use std::alloc::{AllocError, Global};
-use std::collections::BTreeSet;
+// Which paths data files may have.
+ghost use Rattle.std.specs.Prelude.{◌≡◌, ◌↔◌, IsTrue};
+ghost use Rattle.lan_manifest.specs.Paths.{is_path_byte, IsPath};
 
 fn is_path_byte(byte: u8) -> bool
     ensures { result ≡ is_path_byte byte }
@@ -20,17 +16,4 @@ pub(crate) fn is_path(path: &[u8]) -> bool
         return false;
     }
     path.iter().all(|byte| is_path_byte(*byte))
-}
-
-/// Whether no two fragments have one id.
-pub(crate) fn have_distinct_ids(alloc: Global, fragments: &[Fragment]) -> Result<bool, AllocError>
-    ensures { IfOk result (λ distinct. IsTrue distinct ↔ AllPairs (λ f g. f.id ≢ g.id) fragments.now) }
-{
-    let mut ids = BTreeSet::new(alloc);
-    for fragment in fragments {
-        if !ids.insert(fragment.id)? {
-            return Ok(false);
-        }
-    }
-    Ok(true)
 }

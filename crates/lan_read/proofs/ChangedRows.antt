@@ -16,8 +16,7 @@ use Rattle.lan_manifest.specs.declared.manifest.Fragment.{Fragment}
 use Rattle.lan_manifest.specs.declared.manifest.DataFile.{DataFile}
 use Rattle.lan_read.specs.Changes.{AddsFile, AddToEach, FileHolds, GivesNone, new_fragment, with_file}
 use Rattle.lan_read.specs.Given.{AllGiven, Given, GivenIn, NoneGiven}
-use Rattle.lan_read.specs.Rows.{HoldsColumn, IsDataFile, IsHeld, values_at, FilesGive, PhysicalRows, FragmentGives, FragmentsGive}
-use Rattle.lan_read.specs.Standing.{data_name}
+use Rattle.lan_read.specs.Rows.{HoldsColumn, IsDataFile, IsHeld, values_at, FilesGive, PhysicalRows, FragmentGives, FragmentsGive, data_name}
 use Rattle.lan_read.proofs.RowLists.{Row, field_is, nulls_for, nulls_for-long, nulls_for-null, nulls_fit, each_with-nulls, each_with-long, each_with-append, rows_fit_more, rows_fit_less, last_or_before, column_before, column_last, before_removed, slice_get-removed, column_removed, without-map, without-each, without-none}
 
 -- a field has a leaf

@@ -16,14 +16,14 @@ use Rattle.lan_store.specs.declared.name.Object.{Object}
 use Rattle.lan_file.specs.HeadReasons.{HeadBreaks}
 use Rattle.lan_file.specs.HeadSteps.{pages_of}
 use Rattle.lan_file.specs.Heads.{HasHead, IsThere, LiesRight, Pick, PickedColumn, PickedColumns, head_budget, pick_of, picks_of}
-use Rattle.lan_file.specs.Reasons.{IsSmall}
+use Rattle.lan_file.specs.Parts.{IsSmall}
 use Rattle.lan_file.specs.declared.head.ColumnPick.{ColumnPick}
 use Rattle.lan_file.specs.declared.head_fault.HeadFault.{HeadFault}
 use Rattle.lan_file.specs.declared.head_fault.HeadFault.TheVariants as head
 use Rattle.lan_read.specs.Dealt.{IsColumnOf, RefusesFile, fault_of, file_due}
 use Rattle.lan_read.specs.Grouped.{IsLow}
 use Rattle.lan_read.specs.Opened.{head_due}
-use Rattle.lan_read.specs.Standing.{data_name}
+use Rattle.lan_read.specs.Rows.{data_name}
 
 pub name_is : (name : Name) (path text : List ℕ) → (name.dir ≡ Data) × (name.rest ≡ text) → text ≡ path → name ≡ data_name path
 name_is name path text (dir, rest) same = λ i. record { dir = dir i; rest = (rest ∙ same) i }

@@ -19,8 +19,7 @@ use Rattle.lan_file.proofs.LawTerms.{one_file}
 use Rattle.lan_read.specs.Cut.{AreCut, Cut, cut_at, slots_of_row}
 use Rattle.lan_read.specs.Given.{AllGiven, IsWhole, NoneGiven}
 use Rattle.lan_read.specs.Joined.{ColumnsHaveRows, FieldJoins, FilesJoin, FragmentJoins, HasSlots, RowJoins, ValueJoins}
-use Rattle.lan_read.specs.Rows.{column_slots, FragmentGives, FragmentsGive, HoldsColumn, IsDataFile, IsHeld, PhysicalRows, values_at}
-use Rattle.lan_read.specs.Standing.{data_name}
+use Rattle.lan_read.specs.Rows.{column_slots, FragmentGives, FragmentsGive, HoldsColumn, IsDataFile, IsHeld, PhysicalRows, values_at, data_name}
 use Rattle.lan_read.specs.Tables.{HasManifest, StandsFor}
 use Rattle.lan_read.proofs.CutColumns.{columns_cut, cut_column, row_slots_of}
 use Rattle.lan_read.proofs.RowLists.{column_fits, column_long, field_at, field_is, fits_at, Row, row_long}

@@ -12,8 +12,7 @@ use Rattle.lan_store.specs.Objects.{object}
 use Rattle.lan_manifest.specs.declared.manifest.Fragment.{Fragment}
 use Rattle.lan_manifest.specs.declared.manifest.DataFile.{DataFile}
 use Rattle.lan_manifest.specs.declared.manifest.Deletion.{Deletion}
-use Rattle.lan_read.specs.Rows.{IsHeld, deletion_name, FilesGive, PhysicalRows, AreDeleted, FragmentGives, FragmentsGive}
-use Rattle.lan_read.specs.Standing.{data_name}
+use Rattle.lan_read.specs.Rows.{IsHeld, deletion_name, FilesGive, PhysicalRows, AreDeleted, FragmentGives, FragmentsGive, data_name}
 use Rattle.lan_read.specs.Tables.{StandsFor}
 
 -- what is held under the name is held by the others too

@@ -4,12 +4,9 @@ pub use Rattle.lan_read.proofs.ChangedTables.{add_column_stands, add_null_stands
 pub use Rattle.lan_read.proofs.JoinedRows.{fragment_joins, join_fragment, row_joined, value_joined, version_joins, version_stands}
 pub use Rattle.lan_read.proofs.KeptTables.{fragments_stay, table_stays}
 pub use Rattle.lan_read.proofs.LeafReasons.{no_leaf_fragment, no_leaf_rows, no_leaf_table}
-pub use Rattle.lan_read.proofs.Monotone.{stands_more, rows_more}
 pub use Rattle.lan_read.proofs.Newest.{newest_is, none_is, last_is}
 pub use Rattle.lan_read.proofs.OneScanDue.{one_scan_due}
-pub use Rattle.lan_read.proofs.OneTable.{one_column, one_rows, manifest_one, table_one, stands_with, reason_or_table, unread_stands, unread_or_manifest}
 pub use Rattle.lan_read.proofs.OpenedVersions.{manifest_or_reason, table_or_reason}
-pub use Rattle.lan_read.proofs.PlainTables.{plain_rows_stand, plain_table_stands}
 pub use Rattle.lan_read.proofs.ReadableFields.{columns_at, manifest_columns, manifest_readable, manifest_undeleted, readable_at}
 pub use Rattle.lan_read.proofs.RowRuns.{no_fragment, no_rows, no_table}
 pub use Rattle.lan_read.proofs.ScanBudgets.{scan_due}

@@ -20,7 +20,7 @@ use Rattle.lan_read.specs.FieldReaders.{cursors_due, values_due}
 use Rattle.lan_read.specs.Given.{Given}
 use Rattle.lan_read.specs.Opened.{AreNewCursors, AreNewReaders, IsNewCursor, IsNewReader, Use, opening_due}
 use Rattle.lan_read.specs.Scans.{FragmentDue, FragmentsDue, HandDue, PlainScan, ScanDue, asked_fields, fragment_at_hand, readers_due, rows_at_hand}
-use Rattle.lan_read.specs.Standing.{data_name}
+use Rattle.lan_read.specs.Rows.{data_name}
 use Rattle.lan_read.proofs.HeldColumns.{only_one}
 use Rattle.lan_read.proofs.UsedColumns.{use_gives}
 

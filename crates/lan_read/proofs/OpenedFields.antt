@@ -25,8 +25,7 @@ use Rattle.lan_read.specs.Given.{Given, GivenIn, IsWhole}
 use Rattle.lan_read.specs.Grouped.{grouped, last_at, numbers_for, numbers_of}
 use Rattle.lan_read.specs.Joining.{KnowsIn}
 use Rattle.lan_read.specs.Opened.{AreNewCursors, AreNewReaders, CanReadFrom, IsNewCursor, IsNewReader, IsReadable, Use, and_use, column_listed, has_path, leaves_in, own_column, use_in, use_of, uses_of}
-use Rattle.lan_read.specs.Rows.{IsHeld}
-use Rattle.lan_read.specs.Standing.{data_name}
+use Rattle.lan_read.specs.Rows.{IsHeld, data_name}
 use Rattle.lan_read.proofs.DealtReaders.{AllUsed, Gives, Suits, fields_dealt}
 use Rattle.lan_read.proofs.Grouping.{use_at}
 use Rattle.lan_read.proofs.OpenedReaders.{use_given}

@@ -22,9 +22,8 @@ use Rattle.lan_manifest.specs.declared.manifest.DataFile.{DataFile}
 use Rattle.lan_read.specs.FieldReaders.{GiveLeaves, GivesLeaf, HoldsIn, ReadColumn, ReaderHolds, ReaderKnows, ReadsField, column_read, columns_read, cursors_due, values_due}
 use Rattle.lan_read.specs.Given.{Given}
 use Rattle.lan_read.specs.Opened.{AreNewCursors, AreNewReaders, IsNewCursor, IsNewReader, Use, column_listed, own_column, use_in, use_of}
-use Rattle.lan_read.specs.Rows.{IsHeld}
+use Rattle.lan_read.specs.Rows.{IsHeld, data_name}
 use Rattle.lan_read.specs.Scans.{ReadersKnow, readers_due}
-use Rattle.lan_read.specs.Standing.{data_name}
 use Rattle.lan_read.proofs.ReadValues.{holds_later}
 use Rattle.lan_read.proofs.SingleTable.{held_one, only_item}
 use Rattle.lan_read.proofs.ValuesDue.{due_in}

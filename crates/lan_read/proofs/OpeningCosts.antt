@@ -22,7 +22,7 @@ use Rattle.lan_manifest.specs.declared.manifest.Fragment.{Fragment}
 use Rattle.lan_read.specs.Dealt.{RefusesFiles, file_due, files_due}
 use Rattle.lan_read.specs.Grouped.{IsLow, grouped}
 use Rattle.lan_read.specs.Opened.{HasRows, IsReadable, IsUsedFile, RefusesOpening, Use, and_use, has_path, head_due, heads_due, is_used, leaves_in, opening_due, paths_used, picks_at, use_of, uses_of}
-use Rattle.lan_read.specs.Standing.{data_name}
+use Rattle.lan_read.specs.Rows.{data_name}
 use Rattle.lan_read.specs.declared.read_fault.Reason.TheVariants as reason
 use Rattle.lan_read.specs.declared.read_fault.ReadFault.{ReadFault}
 use Rattle.lan_read.specs.declared.read_fault.ReadFault.TheVariants.{Memory, NoDataset, NoVersion, Outside, Store}

@@ -32,10 +32,9 @@ use Rattle.lan_manifest.specs.declared.manifest.Manifest.{Manifest}
 use Rattle.lan_read.specs.FieldReaders.{HoldsIn, ReaderHolds}
 use Rattle.lan_read.specs.Given.{Given, IsWhole}
 use Rattle.lan_read.specs.Opened.{AreNewCursors, AreNewReaders, IsNewCursor, IsNewReader, Use, column_listed, opening_due, own_column, use_of}
-use Rattle.lan_read.specs.Rows.{FragmentGives, PhysicalRows, column_slots, values_at}
+use Rattle.lan_read.specs.Rows.{FragmentGives, PhysicalRows, column_slots, values_at, data_name}
 use Rattle.lan_read.specs.Scanned.{fields_at}
 use Rattle.lan_read.specs.Scans.{FragmentDue, FragmentsDue, ScanDue, readers_due, scan_start}
-use Rattle.lan_read.specs.Standing.{data_name}
 use Rattle.lan_read.specs.Tables.{HasManifest, StandsFor}
 use Rattle.lan_read.proofs.JoinedRows.{each_from}
 use Rattle.lan_read.proofs.ReadableFields.{manifest_whole}

@@ -19,10 +19,9 @@ use Rattle.lan_manifest.specs.declared.manifest.Fragment.{Fragment}
 use Rattle.lan_read.specs.FieldReaders.{RefusesValue}
 use Rattle.lan_read.specs.Given.{Given}
 use Rattle.lan_read.specs.Opened.{HasRows, IsUsedFile, RefusesOpening, Use, leaves_in, paths_used, picks_at, picks_of_fields, use_of, uses_of}
-use Rattle.lan_read.specs.Rows.{FragmentGives, IsDataFile, IsHeld, PhysicalRows, values_at}
+use Rattle.lan_read.specs.Rows.{FragmentGives, IsDataFile, IsHeld, PhysicalRows, values_at, data_name}
 use Rattle.lan_read.specs.Scanned.{fields_at}
 use Rattle.lan_read.specs.Scans.{RefusesScan}
-use Rattle.lan_read.specs.Standing.{data_name}
 use Rattle.lan_read.specs.Tables.{HasManifest, StandsFor}
 use Rattle.lan_read.specs.declared.read_fault.Reason.{Reason}
 use Rattle.lan_read.specs.declared.read_fault.Reason.TheVariants as reason

@@ -24,11 +24,10 @@ use Rattle.lan_manifest.specs.declared.manifest.Fragment.{Fragment}
 use Rattle.lan_read.specs.Changes.{AddsFile, FileHolds, GivesNone, new_fragment}
 use Rattle.lan_read.specs.Given.{AllGiven, GivenIn, NoneGiven}
 use Rattle.lan_read.specs.Listings.{all_listings, file_of_fields, ids_in, IsFileOfRows, Listing, listings_of, picks_from, rows_of_one}
-use Rattle.lan_read.specs.Rows.{column_slots, FragmentGives, HoldsColumn, IsDataFile, IsHeld, values_at}
-use Rattle.lan_read.specs.Standing.{data_name}
+use Rattle.lan_read.specs.Rows.{column_slots, FragmentGives, HoldsColumn, IsDataFile, IsHeld, values_at, data_name}
 use Rattle.lan_read.proofs.ChangedRows.{fragment_new}
 use Rattle.lan_read.proofs.LeafTops.{below_top, column_by_itself, no_column}
-use Rattle.lan_read.proofs.PlainTables.{rows_slots-is}
+use Rattle.lan_read.proofs.RowSlots.{rows_slots-is}
 use Rattle.lan_read.proofs.RowLists.{column_long, Row}
 
 mutual

@@ -8,8 +8,7 @@ use Rattle.lan_store.specs.declared.name.Object.{Object}
 use Rattle.lan_manifest.specs.declared.manifest.DataFile.{DataFile}
 use Rattle.lan_manifest.specs.declared.manifest.Fragment.{Fragment}
 use Rattle.lan_read.specs.Given.{AllGiven, GivenIn, NoneGiven}
-use Rattle.lan_read.specs.Rows.{FragmentGives, HoldsColumn, IsDataFile, IsHeld, values_at}
-use Rattle.lan_read.specs.Standing.{data_name}
+use Rattle.lan_read.specs.Rows.{FragmentGives, HoldsColumn, IsDataFile, IsHeld, values_at, data_name}
 
 -- the file is held, of a row for each, and each column in which it gives a leaf has the rows' slots
 pub record FileHolds (objects : List Object) (fields : List (PlainField ℕ)) (file : DataFile) (rows : List (List PlainValue)) : Type 0 where

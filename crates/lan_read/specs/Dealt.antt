@@ -16,8 +16,7 @@ use Rattle.lan_file.specs.declared.head_fault.HeadFault.{HeadFault}
 use Rattle.lan_file.specs.declared.head_fault.HeadFault.TheVariants as head
 use Rattle.lan_manifest.specs.declared.manifest.DataFile.{DataFile}
 use Rattle.lan_read.specs.Opened.{HasRows, head_due}
-use Rattle.lan_read.specs.Rows.{IsHeld}
-use Rattle.lan_read.specs.Standing.{data_name}
+use Rattle.lan_read.specs.Rows.{IsHeld, data_name}
 use Rattle.lan_read.specs.declared.read_fault.Reason.TheVariants as reason
 use Rattle.lan_read.specs.declared.read_fault.ReadFault.{ReadFault}
 use Rattle.lan_read.specs.declared.read_fault.ReadFault.TheVariants.{Memory, Outside, Store}

@@ -21,8 +21,7 @@ use Rattle.lan_store.specs.Objects.{object}
 use Rattle.lan_file.specs.Heads.{HasHead}
 use Rattle.lan_manifest.specs.declared.manifest.DataFile.{DataFile}
 use Rattle.lan_read.specs.Given.{Given, NoneGiven}
-use Rattle.lan_read.specs.Rows.{IsHeld, PhysicalRows}
-use Rattle.lan_read.specs.Standing.{data_name}
+use Rattle.lan_read.specs.Rows.{IsHeld, PhysicalRows, data_name}
 use Rattle.lan_read.specs.declared.read_fault.Reason.TheVariants as reason
 use Rattle.lan_read.specs.declared.read_fault.ReadFault.{ReadFault}
 use Rattle.lan_read.specs.declared.read_fault.ReadFault.TheVariants.{Memory, Outside, Store}

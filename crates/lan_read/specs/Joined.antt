@@ -13,8 +13,7 @@ use Rattle.lan_manifest.specs.declared.manifest.DataFile.{DataFile}
 use Rattle.lan_manifest.specs.declared.manifest.Fragment.{Fragment}
 use Rattle.lan_read.specs.Cut.{AreCut, slots_of_row}
 use Rattle.lan_read.specs.Given.{AllGiven, Given, NoneGiven}
-use Rattle.lan_read.specs.Rows.{AreDeleted, IsDataFile, IsHeld}
-use Rattle.lan_read.specs.Standing.{data_name}
+use Rattle.lan_read.specs.Rows.{AreDeleted, IsDataFile, IsHeld, data_name}
 
 -- the bytes are a data file of so many rows, and its column of this number has these slots in the leaf
 abbrev pub HasSlots : List ℕ → ℕ → ℕ → PlainLeaf → List PlainSlot → Type 0

@@ -3,7 +3,6 @@ pub mod Cut
 pub mod Dealt
 pub mod Failures
 pub mod FieldReaders
-pub mod Fragments
 pub mod Given
 pub mod Grouped
 pub mod Joined
@@ -12,8 +11,6 @@ pub mod Listings
 pub mod Newest
 pub mod Opened
 pub mod Opening
-pub mod Opens
-pub mod Reasons
 pub mod Rows
 pub mod RowValues
 pub mod Scanned
@@ -21,5 +18,4 @@ pub mod Scanning
 pub mod Scans
 pub mod Snapshots
 pub mod Stage
-pub mod Standing
 pub mod Tables

@@ -20,8 +20,7 @@ use Rattle.lan_manifest.specs.declared.manifest.DataFile.{DataFile}
 use Rattle.lan_manifest.specs.declared.manifest.Fragment.{Fragment}
 use Rattle.lan_read.specs.FieldReaders.{CanRead}
 use Rattle.lan_read.specs.Given.{IsWhole, NoneGiven}
-use Rattle.lan_read.specs.Rows.{IsHeld}
-use Rattle.lan_read.specs.Standing.{data_name}
+use Rattle.lan_read.specs.Rows.{IsHeld, data_name}
 use Rattle.lan_read.specs.declared.read_fault.Reason.TheVariants as reason
 use Rattle.lan_read.specs.declared.read_fault.ReadFault.{ReadFault}
 use Rattle.lan_read.specs.declared.read_fault.ReadFault.TheVariants.{Memory, Outside, Store}

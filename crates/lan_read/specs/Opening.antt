@@ -15,10 +15,21 @@ use Rattle.lan_manifest.specs.declared.manifest.Fragment.{Fragment}
 use Rattle.lan_manifest.specs.declared.manifest.Manifest.{Manifest}
 use Rattle.lan_read.specs.Scanned.{deleted_in}
 use Rattle.lan_read.specs.Tables.{HasManifest}
+use Rattle.lan_read.specs.declared.object.ObjectFault.{ObjectFault}
+use Rattle.lan_read.specs.declared.object.ObjectFault.TheVariants as misread
 use Rattle.lan_read.specs.declared.read_fault.Reason.{Reason}
 use Rattle.lan_read.specs.declared.read_fault.Reason.TheVariants as reason
 use Rattle.lan_read.specs.declared.read_fault.ReadFault.{ReadFault}
 use Rattle.lan_read.specs.declared.read_fault.ReadFault.TheVariants as unread
+
+-- the object's bytes, of which it has at most 2^30, or why they aren't read
+abbrev pub ObjectIs : Option (List ℕ) → Result (List ℕ) ObjectFault → Type 0
+ObjectIs held (Ok bytes) = (held ≡ Some bytes) × (length bytes ≤ 2 ^ 30)
+ObjectIs held (Err misread.Missing) = held ≡ None
+ObjectIs held (Err (misread.Size size)) = IsSomeAnd held (λ bytes. (2 ^ 30 < length bytes) × (size ≡ length bytes))
+ObjectIs held (Err misread.Short) = ⊥
+ObjectIs held (Err misread.Failed) = ⊤
+ObjectIs held (Err misread.Memory) = ⊤
 
 -- where a fault of the fields lies: at the key of what can't be read, and else at the message's front
 abbrev pub schema_place : ℕ → SchemaFault → ℕ

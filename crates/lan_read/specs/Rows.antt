@@ -6,7 +6,7 @@ use Rattle.lan_model.specs.After.{without}
 use Rattle.lan_model.specs.Leaves.{PlainLeaf, leaves_of}
 use Rattle.lan_model.specs.Plain.{PlainField, PlainValue, null, values_from}
 use Rattle.lan_model.specs.Table.{FitsRow}
-use Rattle.lan_store.specs.declared.name.Dir.TheVariants.{Deletions}
+use Rattle.lan_store.specs.declared.name.Dir.TheVariants.{Data, Deletions}
 use Rattle.lan_store.specs.declared.name.Name.{Name}
 use Rattle.lan_store.specs.declared.name.Object.{Object}
 use Rattle.lan_store.specs.Objects.{object}
@@ -17,7 +17,10 @@ use Rattle.lan_manifest.specs.declared.manifest.Deletion.{Deletion}
 use Rattle.lan_manifest.specs.declared.manifest.Fragment.{Fragment}
 use Rattle.lan_read.specs.Given.{Given, NoneGiven}
 use Rattle.lan_read.specs.Stage.{IsDeletionFile}
-use Rattle.lan_read.specs.Standing.{data_name}
+
+-- the name of a data file
+abbrev pub data_name : List ℕ → Name
+data_name path = record { dir = Data; rest = path }
 
 -- a deletion file has the fragment's id in its name
 abbrev pub deletion_name : ℕ → Deletion → Name

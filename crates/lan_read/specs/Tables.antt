@@ -1,4 +1,4 @@
--- When the stored objects stand for a table at a version, whatever its columns and files.
+-- When the stored objects stand for a table at a version.
 use Rattle.std.specs.Prelude.{◌≡◌, ℕ, List, map, All}
 use Rattle.lan_model.specs.Dataset.{Dataset}
 use Rattle.lan_model.specs.Plain.{unnumbered}

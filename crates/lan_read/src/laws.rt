@@ -15,17 +15,13 @@ ghost use Rattle.lan_page.specs.declared.fault.PageReason.{PageReason};
 ghost use Rattle.lan_store.specs.Budget.{Budget};
 ghost use Rattle.lan_store.specs.declared.name.Name.{Name};
 ghost use Rattle.lan_store.specs.declared.name.Object.{Object};
-ghost use Rattle.lan_read.specs.declared.fault.PlainReason.{PlainReason};
 ghost use Rattle.lan_read.specs.declared.read_fault.ReadFault.TheVariants.{Outside};
 ghost use Rattle.lan_read.specs.declared.read_fault.Reason.{Reason};
-ghost use Rattle.lan_file.specs.Stage.{IsRequiredFixed};
 ghost use Rattle.lan_manifest.specs.declared.manifest.DataFile.{DataFile};
 ghost use Rattle.lan_manifest.specs.declared.manifest.Fragment.{Fragment};
 ghost use Rattle.lan_manifest.specs.ManifestObjects.{IsManifestObject};
 ghost use Rattle.lan_manifest.specs.declared.manifest.Manifest.{Manifest};
 ghost use Rattle.lan_manifest.specs.Manifests.{PlainManifest, plain_manifest};
-ghost use Rattle.lan_manifest.specs.Reads.{ManifestAt};
-ghost use Rattle.lan_manifest.specs.Stage.{IsOneColumn, IsOneFile};
 ghost use Rattle.lan_manifest.specs.Versions.{AreListed, IsNewest, NoneListed};
 ghost use Rattle.lan_read.specs.Changes.{AddsFile, AddToEach, GivesNone, new_fragment, with_file};
 ghost use Rattle.lan_read.specs.FieldReaders.{LeafReasonStands, RefusesValue, RowHasNoValue};
@@ -35,33 +31,10 @@ ghost use Rattle.lan_read.specs.Listings.{IsFileOfRows, all_listings, file_of_fi
 ghost use Rattle.lan_read.specs.Newest.{IsNewestOf};
 ghost use Rattle.lan_read.specs.Opened.{IsReadable, RefusesOpening};
 ghost use Rattle.lan_read.specs.Opening.{ManifestReasonStands};
-ghost use Rattle.lan_read.specs.Reasons.{Stands, StandsUnread};
-ghost use Rattle.lan_read.specs.Rows.{FragmentGives, FragmentsGive, IsHeld, PhysicalRows};
+ghost use Rattle.lan_read.specs.Rows.{FragmentGives, FragmentsGive, IsHeld, PhysicalRows, data_name};
 ghost use Rattle.lan_read.specs.Scanned.{AreScanned, IsScanFront, fields_at};
 ghost use Rattle.lan_read.specs.Scans.{PlainScan, RefusesScan, ScanDue, scan_start};
-ghost use Rattle.lan_read.specs.Standing.{RowsOf, StandsAt, data_name};
 ghost use Rattle.lan_read.specs.Tables.{AgreesWith, HasManifest, StandsFor};
-
-/// More objects change no table that stands, and no rows of fragments.
-pub fn tables_stay()
-    ensures tables { (objects more : List Object) (version : ℕ) (t : Table) → StandsAt objects version t → StandsAt (objects ++ more) version t }
-    ensures rows { (objects more : List Object) (fields : List (PlainField ℕ)) (fragments : List Fragment) (rows : List (List PlainValue)) → RowsOf objects fields fragments rows → RowsOf (objects ++ more) fields fragments rows }
-{}
-
-/// The objects stand for one table at a version.
-pub fn one_table()
-    ensures { (objects : List Object) (version : ℕ) (t u : Table) → StandsAt objects version t → StandsAt objects version u → t ≡ u }
-{}
-
-/// A version in which a reason stands, stands for no table.
-pub fn reasons_are_against_tables()
-    ensures { (objects : List Object) (version : ℕ) (name : Name) (why : PlainReason) (place : ℕ) (t : Table) → Stands objects version name why place → StandsAt objects version t → ⊥ }
-{}
-
-/// The objects have one manifest of a version.
-pub fn one_manifest_of_a_version()
-    ensures { (objects : List Object) (version : ℕ) (m n : PlainManifest) → ManifestAt objects version m → ManifestAt objects version n → m ≡ n }
-{}
 
 /// The last of the listed versions is the newest, and where there is no last none is listed; so the newest
 /// is the last, and where none is listed there is none.
@@ -71,35 +44,14 @@ pub fn newest_is_last()
     ensures none { (objects : List Object) (versions : List ℕ) → AreListed objects versions → NoneListed objects → versions ≡ [] }
 {}
 
-/// Fragments give one list of rows.
-pub fn one_list_of_rows()
-    ensures { (objects : List Object) (fields : List (PlainField ℕ)) (fragments : List Fragment) (xs ys : List (List PlainValue)) → IsOneColumn fields → All IsOneFile fragments → RowsOf objects fields fragments xs → RowsOf objects fields fragments ys → xs ≡ ys }
-{}
-
-/// The one column of a manifest is one that data files are made of.
-pub fn columns_have_files()
-    ensures { (fields : List (PlainField ℕ)) → IsOneColumn fields → (f : PlainField ℕ) × (fields ≡ f ∷ []) × IsRequiredFixed f }
-{}
-
-/// A table that stands has the rows that its manifest's fragments give.
-pub fn rows_are_those_of_fragments()
-    ensures { (objects : List Object) (version : ℕ) (t : Table) (m : PlainManifest) (rows : List (List PlainValue)) → StandsAt objects version t → ManifestAt objects version m → RowsOf objects m.fields m.fragments rows → t.rows ≡ rows }
-{}
-
-/// A reason that stands in a version's manifest stands in the version, which then has no manifest.
-pub fn manifests_have_no_reason()
-    ensures stands { (objects : List Object) (version : ℕ) (name : Name) (why : PlainReason) (place : ℕ) → StandsUnread objects version name why place → Stands objects version name why place }
-    ensures none { (objects : List Object) (version : ℕ) (name : Name) (why : PlainReason) (place : ℕ) (m : PlainManifest) → StandsUnread objects version name why place → ManifestAt objects version m → ⊥ }
-{}
-
-/// Whatever its columns and files: more objects change no table that stands, and no rows of fragments.
+/// More objects change no table that stands, and no rows of fragments.
 pub fn standing_tables_stay()
     ensures tables { (objects more : List Object) (version : ℕ) (t : Table) → StandsFor objects version t → StandsFor (objects ++ more) version t }
     ensures rows { (objects more : List Object) (fields : List (PlainField ℕ)) (fragments : List Fragment) (rows : List (List PlainValue)) → FragmentsGive objects fields fragments rows → FragmentsGive (objects ++ more) fields fragments rows }
 {}
 
-/// Whatever its columns and files: the objects stand for one table at a version, and have one manifest of it;
-/// the table has the rows that the manifest's fragments give.
+/// The objects stand for one table at a version, and have one manifest of it; the table has the rows that the
+/// manifest's fragments give.
 pub fn one_standing_table()
     ensures table { (objects : List Object) (version : ℕ) (t u : Table) → StandsFor objects version t → StandsFor objects version u → t ≡ u }
     ensures manifest { (objects : List Object) (version : ℕ) (m n : PlainManifest) → HasManifest objects version m → HasManifest objects version n → m ≡ n }
@@ -116,12 +68,6 @@ pub fn manifest_fields_are_whole()
 pub fn fronts_of_fragments_give_fronts()
     ensures { (objects : List Object) (fields : List (PlainField ℕ)) (fs gs : List Fragment) (xs ys : List (List PlainValue)) → AreFields (fields_from fields) → AreWhole fields fs → FragmentsGive objects fields fs xs → FragmentsGive objects fields (fs ++ gs) ys
         → (later : List (List PlainValue)) × (ys ≡ xs ++ later) × FragmentsGive objects fields gs later }
-{}
-
-/// A table of one column in the writer's own spelling stands whatever the columns and files of others.
-pub fn narrow_tables_stand()
-    ensures tables { (objects : List Object) (version : ℕ) (t : Table) → StandsAt objects version t → StandsFor objects version t }
-    ensures rows { (objects : List Object) (fields : List (PlainField ℕ)) (fragments : List Fragment) (rows : List (List PlainValue)) → IsOneColumn fields → All IsOneFile fragments → RowsOf objects fields fragments rows → FragmentsGive objects fields fragments rows }
 {}
 
 /// A data file of the writer's lists whose columns have the rows' slots gives them, as the one file of a new

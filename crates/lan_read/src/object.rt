@@ -1,7 +1,7 @@
 // Whole objects.
 ghost use Rattle.std.specs.Option.{ForSome};
 ghost use Rattle.lan_store.specs.Objects.{object};
-ghost use Rattle.lan_read.specs.Opens.{ObjectIs};
+ghost use Rattle.lan_read.specs.Opening.{ObjectIs};
 ghost use Rattle.lan_store.specs.Budget.{ranges};
 ghost use Rattle.lan_store.specs.Looked.{Looked};
 ghost use Rattle.lan_read.specs.Failures.{object_failure};

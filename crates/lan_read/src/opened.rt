@@ -13,7 +13,7 @@ ghost use Rattle.lan_read.specs.Failures.{unread_failure};
 ghost use Rattle.lan_read.specs.FieldReaders.{ReaderKnows};
 ghost use Rattle.lan_read.specs.Grouped.{IsLow};
 ghost use Rattle.lan_read.specs.Opened.{AreNewReaders, CanReadFrom, IsReadable, RefusesOpening, opening_due, opening_most};
-ghost use Rattle.lan_read.specs.Standing.{data_name};
+ghost use Rattle.lan_read.specs.Rows.{data_name};
 
 use crate::field_reader::{ColumnCursors, FieldReader};
 use crate::read_fault::{ReadFault, Reason};

@@ -1,12 +1,13 @@
 // The versions of a dataset.
-ghost use Rattle.std.specs.Prelude.{◌≡◌, ◌<◌, [], All, length, IfOk, IfErr};
+ghost use Rattle.std.specs.Prelude.{◌≡◌, ◌<◌, [], All, length, IfOk, IfErr, IfSome};
 ghost use Rattle.std.specs.Option.{ForSome};
 ghost use Rattle.lan_manifest.specs.Versions.{AreListed, IsVersion};
 ghost use Rattle.lan_read.specs.Failures.{unread_failure};
+ghost use Rattle.lan_read.specs.Newest.{IsNewestOf};
 ghost use Rattle.lan_read.specs.Opening.{RefusesListing};
 ghost use Rattle.lan_store.specs.declared.name.Dir.TheVariants.{Versions};
 ghost use Rattle.lan_store.specs.Budget.{nothing};
-ghost use Rattle.lan_store.specs.Looked.{Looked};
+ghost use Rattle.lan_store.specs.Looked.{Looked, list_failure};
 
 use crate::read_fault::ReadFault;
 use lan_manifest::list_versions as manifest_versions;
@@ -14,6 +15,16 @@ use lan_model::{Nums, Text};
 use lan_store::laws::looks_add_up;
 use lan_store::{Dir, ListFault, Name, Store};
 use std::alloc::Global;
+
+/// The newest listed version.
+pub fn newest_version<S: Store>(alloc: Global, store: &mut S) -> Result<Option<u64>, ListFault>
+    ensures looked { Looked (list_failure Dir.Versions result) nothing (S.tells store.old) (S.tells store.new) }
+    ensures newest { ForSome (S.tells store.old).objects (λ all. IfOk result (IsNewestOf all)) }
+    ensures version { IfOk result (λ newest. IfSome newest IsVersion) }
+{
+    let versions = manifest_versions(alloc, store)?;
+    Ok(versions.as_slice().last().copied())
+}
 
 /// The numbers of the versions that are listed, rising.
 pub fn list_versions<S: Store>(alloc: Global, store: &mut S) -> Result<Nums, ReadFault>

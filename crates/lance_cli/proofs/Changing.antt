@@ -1,12 +1,12 @@
 -- A change that a command asks for, where the objects agree with a dataset: that there is one, the table that it makes, and what is replied.
-use Rattle.std.proofs.Common.{◌≡◌, inl, inr, refl, sym, ◌∙◌, ap, subst, ℕ, ◌+◌, List, [], ◌∷◌, ◌++◌, length, map, arith, true, false}
-use Rattle.std.specs.Prelude.{Bool, cond, nat_eq, Option, Some, None, IsSome, option_map, option_and_then, unwrap_or, Result, Ok, Err}
+use Rattle.std.proofs.Common.{◌≡◌, refl, sym, ◌∙◌, ap, subst, ℕ, ◌+◌, List, [], ◌∷◌, ◌++◌, map, arith, true}
+use Rattle.std.specs.Prelude.{nat_eq, Option, Some, None, IsSome, option_map, option_and_then, Result, Ok}
 use Rattle.std.specs.List.{list_any}
 use Rattle.std.proofs.lemmas.Option.{same_Some}
 use Rattle.lan_model.specs.After as after
 use Rattle.lan_model.specs.After.{Command, after as after_command, created, restored, after_newest}
 use Rattle.lan_model.specs.Dataset.{Dataset, newest, table_at, with_version}
-use Rattle.lan_model.specs.Plain.{PlainField, PlainFields, PlainValue, fields_from, unnumbered}
+use Rattle.lan_model.specs.Plain.{PlainField, PlainValue, fields_from, unnumbered}
 use Rattle.lan_model.specs.Table.{Table, Column}
 use Rattle.lan_form.specs.Form.{form}
 use Rattle.lan_form.specs.Judged.{Judged}
@@ -21,7 +21,6 @@ use Rattle.lan_read.specs.Tables.{AgreesWith, HasManifest, StandsFor}
 use Rattle.lan_read.proofs.LawTerms.{one_manifest_held}
 use Rattle.lan_commit.specs.Change as change
 use Rattle.lan_commit.specs.Change.{Change, manifest_after}
-use Rattle.lan_commit.specs.ChangePuts.{puts_of, limit_of}
 use Rattle.lan_commit.specs.First.{no_rows}
 use Rattle.lan_commit.specs.Makes.{Makes, ComesAfter}
 use Rattle.lance_cli.specs.Commands.{Asked, create, append, restore, scan, schema, versions, is_change, Request}
@@ -29,7 +28,7 @@ use Rattle.lance_cli.specs.Creates.{Takes}
 use Rattle.lance_cli.specs.Puts.{AsksChange, ReadsRows, ReadsBoth}
 use Rattle.lance_cli.specs.Replies.{Told, Shown, Outcome, refused, done, within, changed_to, change_reply, create_reply, append_reply, answer}
 use Rattle.lance_cli.specs.declared.fault.Fault.TheVariants as fault
-use Rattle.lance_cli.proofs.VersionReply.{Read, columns_of, found, is_among, newest_at, newest_listed, newest_none, table_read, version_read}
+use Rattle.lance_cli.proofs.VersionReply.{Read, columns_of, found, is_among, newest_at, newest_listed, newest_none, version_read}
 
 -- ---- one change
 

@@ -1,10 +1,9 @@
 -- The places of columns, by their names.
-use Rattle.std.proofs.Common.{◌≡◌, refl, sym, ◌∙◌, ap, subst, ℕ, zero, suc, ◌+◌, ◌<◌, ◌≤◌, List, [], ◌∷◌, ◌++◌, length, get_or, drop, map, arith, append_assoc, bytes_eq, cond, Decides, IsTrue, inl, inr}
-use Rattle.std.specs.Prelude.{◌↔◌, ◌⊎◌, Bool, true, false, All, Option, Some, None, IfSome, Result, Ok, Err, position, nat_lt, not}
-use Rattle.std.specs.List.{position_or_len, prefix_len, range_with_len}
+use Rattle.std.proofs.Common.{◌≡◌, refl, sym, ◌∙◌, ap, ℕ, zero, suc, ◌+◌, ◌<◌, ◌≤◌, List, [], ◌∷◌, ◌++◌, length, get_or, drop, map, arith, append_assoc, bytes_eq, cond, IsTrue}
+use Rattle.std.specs.Prelude.{◌↔◌, Bool, Some, None, Result, Ok, Err, position, nat_lt, not}
+use Rattle.std.specs.List.{position_or_len, range_with_len}
 use Rattle.std.proofs.lemmas.Bool.Decides.{same_from_decides}
 use Rattle.std.proofs.lemmas.List.{append-nil, at_drop_all, at_drop_more, length-map}
-use Rattle.std.proofs.lemmas.List.Quantifiers.{position-Some}
 use Rattle.std.proofs.lemmas.Slice.Eq.{bytes_eq-Decides}
 use Rattle.lan_model.specs.After.{Refusal, no_column, place_of}
 use Rattle.lan_model.specs.Plain.{unnumbered}

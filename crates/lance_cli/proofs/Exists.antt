@@ -1,6 +1,6 @@
 -- A command has a link where the versions that it reads have tables, and a run its chain where they stand.
 use Rattle.std.proofs.Common.{◌≡◌, inl, inr, refl, sym, ◌∙◌, ap, subst, ℕ, ◌+◌, List, [], ◌∷◌, map, true, false, arith}
-use Rattle.std.specs.Prelude.{Bool, MatchBool, ◌⊎◌, cond, nat_eq, ◌++◌, Option, Some, None, IsSome, option_and_then, option_map, Result, Ok, Err}
+use Rattle.std.specs.Prelude.{Bool, MatchBool, cond, nat_eq, ◌++◌, Option, Some, None, IsSome, option_and_then, Result, Ok, Err}
 use Rattle.std.specs.List.{list_any}
 use Rattle.std.proofs.lemmas.Bool.{cases_Bool}
 use Rattle.std.proofs.lemmas.Bool.Decides.{nat_tests}
@@ -15,7 +15,6 @@ use Rattle.lan_rows.specs.declared.lines.LinesFault.{LinesFault}
 use Rattle.lan_store.specs.declared.name.Object.{Object}
 use Rattle.lan_manifest.specs.Manifests.{PlainManifest}
 use Rattle.lan_manifest.specs.Versions.{IsListed, IsNewest}
-use Rattle.lan_read.specs.Newest.{IsNewestOf}
 use Rattle.lan_read.specs.Opening.{IsAskedFor}
 use Rattle.lan_read.specs.Snapshots.{IsNewestManifest}
 use Rattle.lan_read.specs.Tables.{AgreesWith, HasManifest, StandsFor}
@@ -30,10 +29,9 @@ use Rattle.lance_cli.specs.Commands.{Asked, create, append, restore, scan, schem
 use Rattle.lance_cli.specs.Creates.{Takes}
 use Rattle.lance_cli.specs.Faults.{of_form, of_lines}
 use Rattle.lance_cli.specs.Laws.{RowsCanBeWritten, IsSound, HasTables, AllStand}
-use Rattle.lance_cli.specs.Options.{Options}
 use Rattle.lance_cli.specs.Puts.{AsksChange, Puts, Shows}
-use Rattle.lance_cli.specs.Replies.{Told, Shown, Outcome, refused, done, within, changed_to, change_reply, create_reply, append_reply, scan_reply, versions_reply, on_listed, on_version, reply, single, said_by, goes_on, left_by, alone}
-use Rattle.lance_cli.specs.Reports.{schema_text, versions_text}
+use Rattle.lance_cli.specs.Replies.{Told, Shown, Outcome, refused, done, within, change_reply, create_reply, append_reply, scan_reply, versions_reply, on_version, reply, single, said_by, goes_on, left_by, alone}
+use Rattle.lance_cli.specs.Reports.{schema_text}
 use Rattle.lance_cli.specs.Runs.{IsRun}
 use Rattle.lance_cli.specs.Scanning.{places_asked}
 use Rattle.lance_cli.specs.declared.fault.Fault.TheVariants as fault

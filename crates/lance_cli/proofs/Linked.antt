@@ -1,6 +1,6 @@
 -- What a command did is what is replied to it, where the versions that it reads stand.
-use Rattle.std.proofs.Common.{◌≡◌, inl, inr, refl, sym, ◌∙◌, ap, subst, ℕ, ◌+◌, List, [], ◌∷◌, ◌++◌, take, map, length, arith, append-nil, length-append, true, false}
-use Rattle.std.specs.Prelude.{Bool, MatchBool, ◌⊎◌, ◌<◌, nat_eq, Option, Some, None, unwrap_or, flat_map, Result, Ok, Err}
+use Rattle.std.proofs.Common.{◌≡◌, inl, inr, refl, sym, ◌∙◌, ap, subst, ℕ, List, [], ◌∷◌, ◌++◌, take, map, length, arith, append-nil, length-append, true, false}
+use Rattle.std.specs.Prelude.{Bool, MatchBool, ◌⊎◌, ◌<◌, nat_eq, Option, Some, None, unwrap_or, Ok, Err}
 use Rattle.std.specs.List.{list_any}
 use Rattle.std.proofs.lemmas.Option.{same_Some}
 use Rattle.std.proofs.lemmas.List.{take_all}
@@ -8,7 +8,7 @@ use Rattle.std.proofs.lemmas.List.Concat.{flat_map-append}
 use Rattle.lan_model.specs.After as after
 use Rattle.lan_model.specs.After.{Refusal}
 use Rattle.lan_model.specs.Dataset.{Dataset, newest, with_version}
-use Rattle.lan_model.specs.Plain.{PlainField, PlainValue, unnumbered}
+use Rattle.lan_model.specs.Plain.{PlainValue, unnumbered}
 use Rattle.lan_model.specs.Table.{Table, Column}
 use Rattle.lan_model.specs.Take.{scan_of}
 use Rattle.lan_form.specs.Form.{form}
@@ -16,32 +16,28 @@ use Rattle.lan_rows.specs.Line.{line_of}
 use Rattle.lan_rows.specs.Lines.{rows_of}
 use Rattle.lan_store.specs.Streams.{and_then_bytes}
 use Rattle.lan_store.specs.declared.name.Object.{Object}
-use Rattle.lan_manifest.specs.Manifests.{PlainManifest}
 use Rattle.lan_manifest.specs.Versions.{IsListed, IsNewest, NoneListed, AreListed}
-use Rattle.lan_read.specs.Opening.{IsAskedFor}
-use Rattle.lan_read.specs.Scanned.{AreScanned, IsScanFront, fields_at}
-use Rattle.lan_read.specs.Tables.{AgreesWith, HasManifest, StandsFor}
+use Rattle.lan_read.specs.Scanned.{fields_at}
+use Rattle.lan_read.specs.Tables.{AgreesWith, StandsFor}
 use Rattle.lan_read.proofs.LawTerms.{scanned_table, scanned_front}
-use Rattle.lan_commit.specs.Change as change
 use Rattle.lan_commit.specs.Change.{Change, manifest_after}
 use Rattle.lan_commit.specs.ChangePuts.{puts_of, limit_of}
-use Rattle.lan_commit.specs.Makes.{ComesAfter}
 use Rattle.lan_commit.specs.declared.limits.Which.{Which}
-use Rattle.lance_cli.specs.Causes.{Cause, Reads, BadInput, Makes, Limited, LacksVersion, LacksColumn, named_version}
+use Rattle.lance_cli.specs.Causes.{Cause, Reads, BadInput, Makes, Limited, LacksVersion, LacksColumn}
 use Rattle.lance_cli.specs.Chain.{Link, PutsBy, IsLink}
-use Rattle.lance_cli.specs.Commands.{Asked, create, append, restore, scan, schema, versions, needs_dataset, is_change, prints_rows, Request}
+use Rattle.lance_cli.specs.Commands.{Asked, create, append, restore, scan, schema, versions, needs_dataset, is_change, Request}
 use Rattle.lance_cli.specs.Options.{Options}
-use Rattle.lance_cli.specs.Puts.{AsksChange, Puts, Shows, Accepts, ChangeAccepted, PrintsScan, Prints}
-use Rattle.lance_cli.specs.Replies.{Told, Outcome, refused, done, within, changed_to, change_reply, create_reply, append_reply, on_version, scan_reply, versions_reply, answer, single, said_by, text_by, fault_of}
-use Rattle.lance_cli.specs.Reports.{GotPart, version_text, schema_text, versions_text, rows_text}
-use Rattle.lance_cli.specs.Scanning.{IsAskedManifest, IsScanned, lines_at, places_asked}
+use Rattle.lance_cli.specs.Puts.{AsksChange, Puts, Accepts, ChangeAccepted, Prints}
+use Rattle.lance_cli.specs.Replies.{Told, Outcome, refused, done, within, change_reply, create_reply, append_reply, on_version, scan_reply, versions_reply, answer, single, said_by, text_by}
+use Rattle.lance_cli.specs.Reports.{GotPart, version_text, schema_text, versions_text}
+use Rattle.lance_cli.specs.Scanning.{lines_at, places_asked}
 use Rattle.lance_cli.specs.Served.{OnFront, PrintsRows, PrintsBytes}
 use Rattle.lance_cli.specs.declared.fault.Fault.{Fault}
 use Rattle.lance_cli.specs.declared.fault.Fault.TheVariants as fault
-use Rattle.lance_cli.proofs.Changing.{Made, made, comes_after, one_change, created_reply, there_reply, newest_read, lines_reply, restored_read, newest_one}
+use Rattle.lance_cli.proofs.Changing.{made, one_change, there_reply, newest_read, lines_reply, restored_read}
 use Rattle.lance_cli.proofs.Fronts.{take_within}
 use Rattle.lance_cli.proofs.Listings.{one_listing}
-use Rattle.lance_cli.proofs.VersionReply.{Read, columns_of, lacking_replied, newest_at, newest_behind, newest_listed, newest_none, none_replied, not_among, some_newest, version_read}
+use Rattle.lance_cli.proofs.VersionReply.{columns_of, lacking_replied, newest_at, newest_behind, newest_listed, newest_none, none_replied, not_among, some_newest, version_read}
 
 -- what is replied to an accepted command, and what its link puts
 pub record Settled (outcome : Outcome) (link_puts puts : List Object) (text : List ℕ) : Type 0 where

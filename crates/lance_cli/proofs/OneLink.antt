@@ -11,7 +11,7 @@ use Rattle.lance_cli.specs.Causes.{Cause}
 use Rattle.lance_cli.specs.Chain.{Link, IsLink, Chain, puts_of}
 use Rattle.lance_cli.specs.Changes.{Change}
 use Rattle.lance_cli.specs.Commands.{Asked, create, append, restore, scan, schema, versions, asked_of, prints_rows, Request}
-use Rattle.lance_cli.specs.Replies.{Told, Outcome, refused, done, Mode, single, batch, generate, said_by, goes_on, text_by, answer_to, left_by, replied, Tells, alone, answer}
+use Rattle.lance_cli.specs.Replies.{Told, Outcome, refused, done, Mode, single, batch, generate, said_by, goes_on, text_by, answer_to, left_by, replied, Tells, alone}
 use Rattle.lance_cli.specs.Reports.{GotPart}
 use Rattle.lance_cli.specs.Runs.{IsRun, IsDone, IsFailure, IsPart, StopsAt, StoppedIn, put_at}
 use Rattle.lance_cli.specs.Served.{Applied, GotBefore, WithText, WriteFails, Served}

@@ -1,33 +1,29 @@
 -- The rows of a scan that were passed on, and what stopped them.
-use Rattle.std.proofs.Common.{◌≡◌, refl, sym, ◌∙◌, ap, subst, ℕ, zero, suc, ◌≤◌, List, [], ◌∷◌, ◌++◌, map, append-nil, arith}
-use Rattle.std.specs.Prelude.{None, Some, IfErr, IsErrOf, OnOk, Option, Result, Ok, Err, flat_map}
+use Rattle.std.proofs.Common.{◌≡◌, refl, sym, ◌∙◌, ap, subst, ℕ, ◌≤◌, List, [], ◌∷◌, ◌++◌, map, append-nil, arith}
+use Rattle.std.specs.Prelude.{None, IfErr, IsErrOf, OnOk, Option, Result, Ok, Err, flat_map}
 use Rattle.std.proofs.lemmas.Grind.{flat_map-append}
-use Rattle.std.specs.Option.{ForSome}
-use Rattle.lan_model.specs.Plain.{PlainField, PlainValue, plain_field, unnumbered}
+use Rattle.lan_model.specs.Plain.{plain_field, unnumbered}
 use Rattle.lan_model.specs.PlainTable.{column_of}
 use Rattle.lan_model.specs.declared.tree.Field.{Field}
 use Rattle.lan_model.specs.declared.tree.Val.{Val}
 use Rattle.lan_store.specs.Causes.{HasCause}
 use Rattle.lan_store.specs.Budget.{Budget, Asks, Spends, nothing}
-use Rattle.lan_store.specs.Looked.{Looked}
 use Rattle.lan_store.specs.Streams.{and_then_bytes}
 use Rattle.lan_store.specs.Telling.{Telling}
 use Rattle.lan_store.specs.declared.name.Name.{Name}
 use Rattle.lan_store.specs.declared.name.Object.{Object}
-use Rattle.lan_store.proofs.LawTerms.{and_then_bytes-twice, asks_of, looked_not, looked_then, spends_then}
+use Rattle.lan_store.proofs.LawTerms.{asks_of, looked_not, looked_then, spends_then}
 use Rattle.lan_manifest.specs.Manifests.{PlainManifest, plain_manifest}
 use Rattle.lan_manifest.specs.declared.manifest.Manifest.{Manifest}
 use Rattle.lan_rows.specs.Line.{line_of}
 use Rattle.lan_read.specs.Failures.{unread_failure}
 use Rattle.lan_read.specs.Scanned.{AreScanned, IsScanFront, fields_at}
-use Rattle.lan_read.specs.Scans.{PlainScan, HasGiven, Looks, RefusesScan, ScanDue, ScansSame, SpendsNext, manifest_scanned, scan_start}
+use Rattle.lan_read.specs.Scans.{PlainScan, HasGiven, Looks, RefusesScan, ScanDue, ScansSame, manifest_scanned, scan_start}
 use Rattle.lan_read.specs.declared.read_fault.ReadFault.{ReadFault}
 use Rattle.lan_read.specs.declared.read_fault.ReadFault.TheVariants as unread
 use Rattle.lan_read.proofs.LawTerms.{columns_at}
 use Rattle.lance_cli.specs.Failures.{failure_of}
 use Rattle.lance_cli.specs.Printing.{MayStop, OnFirst, PassesRows, PrintsPlaces, StopsRows, stop_of}
-use Rattle.lance_cli.specs.Reports.{GotPart}
-use Rattle.lance_cli.specs.Scanning.{lines_at}
 use Rattle.lance_cli.specs.Sending.{Passes, Sends, Waits}
 use Rattle.lance_cli.specs.declared.fault.Fault.{Fault}
 use Rattle.lance_cli.specs.declared.fault.Fault.TheVariants as fault

@@ -1,15 +1,14 @@
 -- The first rows of a scan: a front of them is one again, and so are all of them.
 use Rattle.std.proofs.Common.{◌≡◌, inl, inr, refl, sym, ◌∙◌, ap, subst, ℕ, zero, suc, List, [], ◌∷◌, ◌++◌, take, map, append_assoc, arith}
-use Rattle.std.specs.Prelude.{◌⊎◌, All, MatchOption, Option, Some, None, slice_get}
+use Rattle.std.specs.Prelude.{◌⊎◌, All, MatchOption, slice_get}
 use Rattle.std.proofs.lemmas.List.{append-nil}
-use Rattle.lan_model.specs.Plain.{PlainField, PlainValue}
+use Rattle.lan_model.specs.Plain.{PlainField}
 use Rattle.lan_model.specs.Table.{FitsRow}
 use Rattle.lan_model.specs.Take.{picked}
 use Rattle.lan_store.specs.declared.name.Object.{Object}
 use Rattle.lan_manifest.specs.Manifests.{PlainManifest, plain_manifest}
 use Rattle.lan_manifest.specs.declared.manifest.Fragment.{Fragment}
 use Rattle.lan_manifest.specs.declared.manifest.Manifest.{Manifest}
-use Rattle.lan_read.specs.Rows.{FragmentGives}
 use Rattle.lan_read.specs.Scanned.{AreScanned, GivesAll, GivesFront, IsScanFront, fields_at}
 use Rattle.lan_read.specs.Scans.{PlainScan, HasGiven, ScansSame, manifest_scanned, scan_start}
 use Rattle.lance_cli.proofs.SentRows.{Row}

@@ -2,7 +2,7 @@
 use Rattle.std.proofs.Common.{◌≡◌, inl, inr, refl, sym, ◌∙◌, ap, subst, ℕ, List, [], map, drop, arith}
 use Rattle.std.specs.Prelude.{IfErr, IsErrOf, Option, Some, None, Result, Ok, Err}
 use Rattle.std.specs.Option.{ForSome}
-use Rattle.lan_model.specs.After.{Refusal, no_column}
+use Rattle.lan_model.specs.After.{Refusal}
 use Rattle.lan_model.specs.Plain.{unnumbered}
 use Rattle.lan_model.specs.PlainTable.{column_of}
 use Rattle.lan_model.specs.Table.{Column}
@@ -158,11 +158,14 @@ asks_then a b s t u first second = record {
 
 -- the rows were asked for
 pub asks_rows : (old : List Object) (options : Options) (m : Manifest) (places : List ℕ) (s t u : Telling) → IsScanned old options.version options.columns (plain_manifest m) places → Asks (ranges 1) s t → ((due : Budget) → ScanDue old (scan_start m places) due → Asks due t u) → AsksRows options s u old
-asks_rows old options m places s t u reads first later = λ n others due read owed.
-    let same : plain_manifest n ≡ plain_manifest m = asked_one old options.version (plain_manifest n) (plain_manifest m) read.manifest reads.manifest in
-    let placed : others ≡ places = cc (sym read.places_are ∙ ap (λ (p : PlainManifest). places_asked (map unnumbered p.fields) options.columns) same ∙ reads.places_are) in
-    asks_then (ranges 1) due s t u first (later due (subst (λ l. ScanDue old (scan_start m l) due) placed (due_of old n m others due same owed)))
+asks_rows old options m places s t u reads first later = (
+  (λ n others due read owed.
+      let same : plain_manifest n ≡ plain_manifest m = asked_one old options.version (plain_manifest n) (plain_manifest m) read.manifest reads.manifest in
+      let placed : others ≡ places = cc (sym read.places_are ∙ ap (λ (p : PlainManifest). places_asked (map unnumbered p.fields) options.columns) same ∙ reads.places_are) in
+      asks_then (ranges 1) due s t u first (later due (subst (λ l. ScanDue old (scan_start m l) due) placed (due_of old n m others due same owed)))),
+  (λ none. absurd (none (plain_manifest m) places reads)),
+)
 
 -- no more than the manifest was asked for
 pub asks_manifest : (old : List Object) (options : Options) (s t : Telling) → Asks (ranges 1) s t → AsksRows options s t old
-asks_manifest old options s t first = λ n others due read owed. asks_then (ranges 1) due s t t first (asks_none due t)
+asks_manifest old options s t first = ((λ n others due read owed. asks_then (ranges 1) due s t t first (asks_none due t)), (λ none. first))

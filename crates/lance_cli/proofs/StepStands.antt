@@ -1,5 +1,5 @@
 -- A link of each command: what its objects stand for, before its last object and with it.
-use Rattle.std.proofs.Common.{◌≡◌, refl, sym, ◌∙◌, ap, subst, ℕ, ◌+◌, ◌<◌, List, [], ◌∷◌, ◌++◌, length, take, map, arith, append-nil, length-append, true, false}
+use Rattle.std.proofs.Common.{◌≡◌, refl, sym, ◌∙◌, ap, subst, ℕ, ◌+◌, ◌<◌, List, [], ◌∷◌, ◌++◌, length, take, arith, append-nil, length-append, true, false}
 use Rattle.std.specs.Prelude.{Bool, cond, ◌&&◌, nat_eq, MatchBool, Option, Some, None, option_and_then, Result, Ok, Err}
 use Rattle.std.specs.List.{list_any}
 use Rattle.std.proofs.lemmas.Option.{same_Some}
@@ -14,13 +14,13 @@ use Rattle.lan_commit.specs.declared.limits.Which.{Which}
 use Rattle.lan_commit.proofs.LawTerms.{change_agrees, change_unseen}
 use Rattle.lance_cli.specs.Chain.{Link, PutsBy, IsLink, is_done}
 use Rattle.lance_cli.specs.Commands.{Asked, create, append, restore, scan, schema, versions, is_change}
-use Rattle.lance_cli.specs.Puts.{AsksChange, Puts, Shows}
+use Rattle.lance_cli.specs.Puts.{AsksChange, Shows}
 use Rattle.lance_cli.specs.Replies.{Told, Outcome, refused, done, within, on_version, scan_reply, versions_reply, answer, reply, left_by}
 use Rattle.lance_cli.specs.Reports.{schema_text}
 use Rattle.lance_cli.specs.Scanning.{places_asked}
 use Rattle.lance_cli.specs.declared.fault.Fault.{Fault}
 use Rattle.lance_cli.specs.declared.fault.Fault.TheVariants as fault
-use Rattle.lance_cli.proofs.Changing.{Made, comes_after, made}
+use Rattle.lance_cli.proofs.Changing.{comes_after, made}
 
 abbrev pub is_accepted : Asked → Outcome → Bool
 is_accepted asked outcome = is_change asked && is_done outcome

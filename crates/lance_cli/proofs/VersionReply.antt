@@ -1,6 +1,6 @@
 -- What is replied to a command that reads a version.
-use Rattle.std.proofs.Common.{◌≡◌, inl, inr, refl, sym, ◌∙◌, ap, subst, ℕ, zero, suc, ◌+◌, ◌-◌, ◌<◌, List, [], ◌∷◌, ◌++◌, length, map, arith, length-append, get_or, true, false}
-use Rattle.std.specs.Prelude.{Bool, cond, ◌||◌, Option, Some, None, option_map, option_and_then, slice_get, find, nat_eq, All, Contains}
+use Rattle.std.proofs.Common.{◌≡◌, inl, inr, refl, sym, ◌∙◌, ap, subst, ℕ, zero, suc, ◌-◌, ◌<◌, List, [], ◌∷◌, ◌++◌, length, map, arith, length-append, get_or, true, false}
+use Rattle.std.specs.Prelude.{cond, Option, Some, None, option_map, option_and_then, slice_get, find, nat_eq, All}
 use Rattle.std.specs.List.{list_any}
 use Rattle.std.proofs.lemmas.Bool.{cases_Bool}
 use Rattle.std.proofs.lemmas.Bool.Decides.{nat_tests}
@@ -15,7 +15,7 @@ use Rattle.lan_read.specs.Newest.{IsNewestOf}
 use Rattle.lan_read.specs.Opening.{IsAskedFor}
 use Rattle.lan_read.specs.Tables.{AgreesWith, HasManifest, StandsFor}
 use Rattle.lan_read.proofs.LawTerms.{last_is, newest_is, none_is, one_manifest_held}
-use Rattle.lance_cli.specs.Replies.{Outcome, refused, on_listed, on_version}
+use Rattle.lance_cli.specs.Replies.{Outcome, refused, on_version}
 use Rattle.lance_cli.specs.declared.fault.Fault.TheVariants.{NoDataset, NoVersion}
 
 -- ---- the listed versions

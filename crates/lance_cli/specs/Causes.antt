@@ -1,5 +1,5 @@
 -- Why a command is refused, on the objects at its step: one word a fault.
-use Rattle.std.specs.Prelude.{◌≡◌, ◌⊎◌, ℕ, ⊤, List, map, IsTrue, Option, Some, None, Ok, Err}
+use Rattle.std.specs.Prelude.{◌≡◌, ◌⊎◌, ℕ, ⊤, List, map, IsTrue, Option, Some, None, Err}
 use Rattle.std.specs.Option.{ForSome}
 use Rattle.lan_model.specs.After.{no_column}
 use Rattle.lan_model.specs.Plain.{unnumbered}

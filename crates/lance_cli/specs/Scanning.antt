@@ -2,13 +2,13 @@
 use Rattle.std.specs.Prelude.{◌≡◌, ℕ, List, length, map, Option, Some, None, Result, Ok}
 use Rattle.std.specs.List.{range_with_len}
 use Rattle.lan_model.specs.After.{Refusal}
-use Rattle.lan_model.specs.Plain.{PlainField, PlainValue, unnumbered}
+use Rattle.lan_model.specs.Plain.{PlainValue, unnumbered}
 use Rattle.lan_model.specs.Table.{Column}
 use Rattle.lan_model.specs.Take.{places_of}
 use Rattle.lan_store.specs.declared.name.Object.{Object}
 use Rattle.lan_manifest.specs.Manifests.{PlainManifest}
 use Rattle.lan_read.specs.Opening.{IsAskedFor}
-use Rattle.lan_read.specs.Scanned.{AreScanned, IsScanFront, fields_at}
+use Rattle.lan_read.specs.Scanned.{fields_at}
 use Rattle.lan_read.specs.Tables.{HasManifest}
 use Rattle.lance_cli.specs.Reports.{rows_text}
 

@@ -90,6 +90,9 @@ fn start(rt: &HostRuntime) -> Result<(), Fault> {
     let Some(folder) = first else {
         return Err(Fault::Usage);
     };
+    if folder.as_str().is_empty() {
+        return Err(Fault::Usage);
+    }
     if words.is_empty()
         && let Some(page) = page_of(folder.as_str())
     {

@@ -2,7 +2,7 @@ use Rattle.std.proofs.Common.{◌≡◌, ◌∙◌, ◌+◌, ◌-◌, ◌≤◌,
 use Rattle.std.proofs.lemmas.Result.{err_from_is_err_and}
 use Rattle.lan_store.specs.Objects.{object}
 use Rattle.lan_file.specs.declared.head_fault.HeadReason.TheVariants.{TooShort}
-use Rattle.lan_file.specs.Asking.{IsSizeOf}
+use Rattle.lan_file.specs.Tables.{IsSizeOf}
 use Rattle.lan_file.specs.Opening.{IsOpened}
 use Rattle.lan_file.specs.Parts.{part}
 use Rattle.lan_file.specs.HeadReasons.{HeadStandsIn}

@@ -1,7 +1,7 @@
 use Rattle.std.proofs.Common.{◌≡◌, [], sym, subst}
 use Rattle.lan_file.specs.Heads.{picks_of}
 use Rattle.lan_read.specs.Dealt.{RefusesFile}
-use Rattle.lan_read.specs.Standing.{data_name}
+use Rattle.lan_read.specs.Rows.{data_name}
 use Rattle.lan_read.specs.declared.read_fault.ReadFault.{ReadFault}
 use Rattle.lan_read.proofs.FileOpened.{columns_held, file_asked, file_refused, low_each, name_is, some_picks}
 use Rattle.lan_read.proofs.opened.open_file.Goals as goal

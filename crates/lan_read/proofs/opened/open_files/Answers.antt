@@ -7,7 +7,7 @@ use Rattle.lan_store.specs.Budget.{Asks}
 use Rattle.lan_file.specs.Heads.{picks_of}
 use Rattle.lan_file.specs.declared.head.ColumnPick.{ColumnPick}
 use Rattle.lan_read.specs.Dealt.{IsColumnOf, IsFirst, files_due}
-use Rattle.lan_read.specs.Standing.{data_name}
+use Rattle.lan_read.specs.Rows.{data_name}
 use Rattle.lan_read.proofs.OpenedFiles.{file_spends, low_first, low_later, opened_step, refuses_files, three_more}
 use Rattle.lan_read.proofs.opened.open_files.Goals as goal
 

@@ -5,7 +5,7 @@ use Rattle.lan_model.specs.Plain.{plain_field}
 use Rattle.lan_file.specs.Heads.{Pick, picks_of}
 use Rattle.lan_read.specs.Dealt.{AreColumns, AreFirst, AreThere, IsFirst, readers_of}
 use Rattle.lan_read.specs.Opened.{AreNewReaders, CanReadFrom}
-use Rattle.lan_read.specs.Standing.{data_name}
+use Rattle.lan_read.specs.Rows.{data_name}
 use Rattle.lan_read.proofs.Grouping.{groups_long}
 use Rattle.lan_read.proofs.OpenedFields.{dealt_can, dealt_new, new_know, numbers_there}
 use Rattle.lan_read.proofs.OpeningCosts.{asks_opening, readable_low, readable_narrow, refuses_opening}

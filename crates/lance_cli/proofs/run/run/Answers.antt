@@ -1,6 +1,6 @@
 use Rattle.std.proofs.Common.{◌≡◌, sym, ◌∙◌, ap, ℕ, List}
 use Rattle.std.specs.Prelude.{Option, Some, option_map}
-use Rattle.lance_cli.specs.Commands.{Asked, asked_as, asked_of}
+use Rattle.lance_cli.specs.Commands.{asked_as, asked_of}
 use Rattle.lance_cli.specs.Replies.{alone}
 use Rattle.lance_cli.specs.declared.command.Asked.{Asked as Parsed}
 use Rattle.lance_cli.proofs.RunClauses.{served_kept, served_ran, served_done, served_stops, served_decided, moments_of, served_order}

@@ -1,11 +1,11 @@
-use Rattle.std.proofs.Common.{◌≡◌, ◌∙◌, ◌∷◌, ◌++◌, ℕ, List, [], ap, map, subst, sym, refl, rules}
+use Rattle.std.proofs.Common.{◌∙◌, List, [], ap, map, subst, refl, rules}
 use Rattle.std.specs.Prelude.{None, Ok, Err}
 use Rattle.std.proofs.lemmas.Result.{err_from_is_err_and}
-use Rattle.lan_model.specs.Plain.{PlainValue, plain_value}
+use Rattle.lan_model.specs.Plain.{plain_value}
 use Rattle.lan_model.specs.PlainTable.{column_of}
 use Rattle.lan_model.specs.declared.tree.Field.{Field}
 use Rattle.lan_rows.specs.Line.{line_of}
-use Rattle.lan_read.specs.Scans.{HasGiven, Looks}
+use Rattle.lan_read.specs.Scans.{Looks}
 use Rattle.lance_cli.proofs.PassedRows.{asks_err, asks_ok, given_all, lines_wait, looks_kept, looks_none, looks_then, one_line, passed_more, passed_none, passed_unsent, same_on, spends_ok, spends_start, stop_cause, stop_looks, stop_may, unread_stops, unsent_failed}
 use Rattle.lance_cli.proofs.scan.pass_rows.Goals as goal
 

@@ -1,4 +1,4 @@
-use Rattle.std.proofs.Common.{◌≡◌, ◌≤◌, ℕ, List, [], map, false}
+use Rattle.std.proofs.Common.{◌≡◌, ◌≤◌, [], map, false}
 use Rattle.std.specs.Prelude.{None}
 use Rattle.std.specs.Option.{ForSome}
 use Rattle.lan_model.specs.PlainTable.{column_of}

@@ -3,7 +3,7 @@ use Rattle.std.specs.Prelude.{All}
 use Rattle.std.proofs.lemmas.List.Elements.{All-push}
 use Rattle.lan_model.specs.PlainTable.{column_of}
 use Rattle.lan_model.specs.Take.{places_of}
-use Rattle.lance_cli.proofs.ColumnPlaces.{behind_none, places_all, places_more}
+use Rattle.lance_cli.proofs.ColumnPlaces.{places_more}
 use Rattle.lance_cli.proofs.scan.places_of.Goals as goal
 
 pub loop-name-preserved : goal.loop-name-preserved

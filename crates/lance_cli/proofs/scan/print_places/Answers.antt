@@ -1,12 +1,7 @@
-use Rattle.std.proofs.Common.{◌≡◌, ◌∙◌, List, [], ap, map, subst, sym}
-use Rattle.std.specs.Prelude.{None}
+use Rattle.std.proofs.Common.{map, subst, sym}
 use Rattle.std.proofs.lemmas.Result.{err_from_is_err_and}
-use Rattle.lan_model.specs.Plain.{plain_field, unnumbered}
 use Rattle.lan_model.specs.PlainTable.{column_of}
-use Rattle.lan_model.specs.declared.tree.Field.{Field}
-use Rattle.lan_manifest.specs.Manifests.{plain_manifest}
 use Rattle.lan_rows.specs.Line.{line_of}
-use Rattle.lan_read.specs.Scanned.{fields_at}
 use Rattle.lan_read.specs.Scans.{Looks, PlainScan, ScanDue}
 use Rattle.lance_cli.proofs.PassedRows.{asks_none, flushed_places, line_is, looks_none, unbegun_places, unflushed_failed, unflushed_may, unpassed_places}
 use Rattle.lance_cli.proofs.scan.print_places.Goals as goal
